@@ -1,0 +1,233 @@
+-- Lists searched by a test and summed, and tables: lists whose entries are told by a key.
+use mathlib.Core.Path.{_≡_, refl, sym, ap, ap₂, _∙_}
+use mathlib.Core.Bool.{Bool, true, false, cond, false≢true}
+use mathlib.Core.Option.{Option, none, some, Option·none-ne-some}
+use mathlib.Core.List.{List, [], _∷_, _++_, map, map-append}
+use Prim.Native.Nat.{ℕ, zero, suc, _+_, _≤_, _<_}
+use native.Mathlib.Omega.{arith}
+use Rattle.laws.specs.Tests.{on, split, is-none, Exact, exact-sym}
+
+module _ {A : Type 0} where
+  -- the first entry that passes the test
+  abbrev pub find : (A → Bool) → List A → Option A
+  find t [] = none
+  find t (x ∷ xs) = cond (t x) (some x) (find t xs)
+
+  abbrev pub sum : (A → ℕ) → List A → ℕ
+  sum f [] = 0
+  sum f (x ∷ xs) = f x + sum f xs
+
+  abbrev pub All : (A → Type 0) → List A → Type 0
+  All P [] = Unit {0}
+  All P (x ∷ xs) = P x × All P xs
+
+  -- no two entries pass the test together
+  abbrev pub Distinct : (A → A → Bool) → List A → Type 0
+  Distinct t [] = Unit {0}
+  Distinct t (x ∷ xs) = (find (t x) xs ≡ none) × Distinct t xs
+
+  pub all-map : (P Q : A → Type 0) → ((x : A) → P x → Q x) → (xs : List A) → All P xs → All Q xs
+  all-map P Q f [] a = tt
+  all-map P Q f (x ∷ xs) a = (f x (a .0), all-map P Q f xs (a .1))
+
+  pub all-append : (P : A → Type 0) (xs : List A) (y : A) → All P xs → P y → All P (xs ++ (y ∷ []))
+  all-append P [] y a p = (p, tt)
+  all-append P (x ∷ xs) y a p = (a .0, all-append P xs y (a .1) p)
+
+  -- what a search passes over fails its test
+  pub all-miss : (t : A → Bool) (xs : List A) → find t xs ≡ none → All (λ x. t x ≡ false) xs
+  all-miss t [] e = tt
+  all-miss t (x ∷ xs) e = on (λ b. cond b (some x) (find t xs) ≡ none → (b ≡ false) × All (λ x. t x ≡ false) xs) (t x)
+      (λ q h. absurd (Option·none-ne-some x (sym h))) (λ q h. (refl, all-miss t xs h)) e
+
+  -- and what it finds passes it
+  pub find-true : (t : A → Bool) (xs : List A) {x : A} → find t xs ≡ some x → t x ≡ true
+  find-true t [] {x} e = absurd (Option·none-ne-some x e)
+  find-true t (y ∷ xs) {x} e = on (λ b. t y ≡ b → cond b (some y) (find t xs) ≡ some x → t x ≡ true) (t y)
+      (λ _ q h. let p : y ≡ x = cc in cc) (λ _ q h. find-true t xs h) refl e
+
+  pub all-find : (P : A → Type 0) (t : A → Bool) (xs : List A) {x : A} → All P xs → find t xs ≡ some x → P x
+  all-find P t [] {x} a e = absurd (Option·none-ne-some x e)
+  all-find P t (y ∷ xs) {x} a e = on (λ b. cond b (some y) (find t xs) ≡ some x → P x) (t y)
+      (λ q h. let p : y ≡ x = cc in rw p at (a .0)) (λ q h. all-find P t xs (a .1) h) e
+
+  pub sum-append : (f : A → ℕ) (xs ys : List A) → sum f (xs ++ ys) ≡ sum f xs + sum f ys
+  sum-append f [] ys = omega arith
+  sum-append f (x ∷ xs) ys = omega (arith, sum-append f xs ys)
+
+  pub sum-add : (f g h : A → ℕ) → ((x : A) → h x ≡ f x + g x) → (xs : List A) → sum h xs ≡ sum f xs + sum g xs
+  sum-add f g h e [] = omega arith
+  sum-add f g h e (x ∷ xs) = omega (arith, e x, sum-add f g h e xs)
+
+module _ {A B : Type 0} where
+  pub sum-map : (f : B → ℕ) (t : A → B) (xs : List A) → sum f (map t xs) ≡ sum (λ x. f (t x)) xs
+  sum-map f t [] = refl
+  sum-map f t (x ∷ xs) = ap (λ n. f (t x) + n) (sum-map f t xs)
+
+-- what may happen to a table: nothing, an entry more at its end, an entry renewed
+pub data Shift (A : Type 0) : Type 0 where
+  stay : Shift A
+  adds puts : A → Shift A
+
+-- no entry is added
+abbrev pub Steady : {A : Type 0} → Shift A → Type 0
+Steady stay = Unit {0}
+Steady (adds y) = ⊥
+Steady (puts y) = Unit {0}
+
+-- entries told by a key
+pub record Table (A K : Type 0) : Type 0 where
+  pub key : A → K
+  pub same : K → K → Bool
+  pub exact : Exact same
+
+module _ {A K : Type 0} (T : Table A K) where
+  abbrev pub keys : List A → List K
+  keys = map (T .key)
+
+  -- the first entry with the key
+  unfoldable pub look : K → List A → Option A
+  look k xs = find (λ x. T .same k (T .key x)) xs
+
+  -- y takes the place of the first entry with its key
+  unfoldable pub put : A → List A → List A
+  put y [] = []
+  put y (x ∷ xs) = cond (T .same (T .key y) (T .key x)) (y ∷ xs) (x ∷ put y xs)
+
+  abbrev pub shifted : Shift A → List A → List A
+  shifted stay xs = xs
+  shifted (adds y) xs = xs ++ (y ∷ [])
+  shifted (puts y) xs = put y xs
+
+  -- the key is listed
+  abbrev pub Has : K → List A → Type 0
+  Has k xs = is-none (look k xs) ≡ false
+
+  -- no two entries have one key
+  abbrev pub Apart : List A → Type 0
+  Apart xs = Distinct (T .same) (keys xs)
+
+  -- ── what a search finds ──
+  pub look-key : (k : K) (xs : List A) {x : A} → look k xs ≡ some x → k ≡ T .key x
+  unfolding look
+  look-key k xs {x} e = T .exact .only k (T .key x) (find-true (λ x. T .same k (T .key x)) xs e)
+
+  pub all-look : (P : A → Type 0) (k : K) (xs : List A) {x : A} → All P xs → look k xs ≡ some x → P x
+  unfolding look
+  all-look P k xs a e = all-find P (λ x. T .same k (T .key x)) xs a e
+
+  pub sum-look : (f : A → ℕ) (k : K) (xs : List A) {x : A} → look k xs ≡ some x → f x ≤ sum f xs
+  unfolding look
+  sum-look f k [] {x} e = absurd (Option·none-ne-some x e)
+  sum-look f k (y ∷ xs) {x} e = on (λ b. cond b (some y) (look k xs) ≡ some x → f x ≤ f y + sum f xs) (T .same k (T .key y))
+      (λ q h. let p : f y ≡ f x = cc in omega arith) (λ q h. omega (arith, sum-look f k xs h)) e
+
+  -- whether a key is listed goes by the keys alone
+  pub has-keys : (k : K) (xs : List A) → is-none (look k xs) ≡ is-none (find (T .same k) (keys xs))
+  unfolding look
+  has-keys k [] = refl
+  has-keys k (x ∷ xs) = on (λ b. is-none (cond b (some x) (look k xs)) ≡ is-none (cond b (some (T .key x)) (find (T .same k) (keys xs)))) (T .same k (T .key x))
+      (λ q. refl) (λ q. has-keys k xs)
+
+  pub has-same : (k : K) (xs ys : List A) → keys xs ≡ keys ys → is-none (look k xs) ≡ is-none (look k ys)
+  has-same k xs ys e = has-keys k xs ∙ ap (λ l. is-none (find (T .same k) l)) e ∙ sym (has-keys k ys)
+
+  -- ── an entry more ──
+  pub look-append : (k : K) (xs : List A) (y : A) {x : A} → look k xs ≡ some x → look k (xs ++ (y ∷ [])) ≡ some x
+  unfolding look
+  look-append k [] y {x} e = absurd (Option·none-ne-some x e)
+  look-append k (a ∷ xs) y {x} e = on (λ b. cond b (some a) (look k xs) ≡ some x → cond b (some a) (look k (xs ++ (y ∷ []))) ≡ some x) (T .same k (T .key a))
+      (λ q h. h) (λ q h. look-append k xs y h) e
+
+  pub look-last : (xs : List A) (y : A) → look (T .key y) xs ≡ none → look (T .key y) (xs ++ (y ∷ [])) ≡ some y
+  unfolding look
+  look-last [] y e = rw (T .exact .self (T .key y)) refl
+  look-last (a ∷ xs) y e = on (λ b. cond b (some a) (look (T .key y) xs) ≡ none → cond b (some a) (look (T .key y) (xs ++ (y ∷ []))) ≡ some y) (T .same (T .key y) (T .key a))
+      (λ q h. absurd (Option·none-ne-some a (sym h))) (λ q h. look-last xs y h) e
+
+  pub has-append : (k : K) (xs : List A) (y : A) → Has k xs → Has k (xs ++ (y ∷ []))
+  unfolding look
+  has-append k [] y h = absurd (false≢true (sym h))
+  has-append k (x ∷ xs) y h = on (λ b. is-none (cond b (some x) (look k xs)) ≡ false → is-none (cond b (some x) (look k (xs ++ (y ∷ [])))) ≡ false) (T .same k (T .key x))
+      (λ q e. e) (λ q e. has-append k xs y e) h
+
+  miss-append : (k : K) (xs : List A) (y : A) → find (T .same k) (keys xs) ≡ none → T .same k (T .key y) ≡ false → find (T .same k) (keys (xs ++ (y ∷ []))) ≡ none
+  miss-append k [] y e n = rw n refl
+  miss-append k (x ∷ xs) y e n = on (λ b. cond b (some (T .key x)) (find (T .same k) (keys xs)) ≡ none → cond b (some (T .key x)) (find (T .same k) (keys (xs ++ (y ∷ [])))) ≡ none) (T .same k (T .key x))
+      (λ q h. absurd (Option·none-ne-some (T .key x) (sym h))) (λ q h. miss-append k xs y h n) e
+
+  pub apart-append : (xs : List A) (y : A) → Apart xs → look (T .key y) xs ≡ none → Apart (xs ++ (y ∷ []))
+  unfolding look
+  apart-append [] y a e = (refl, tt)
+  apart-append (x ∷ xs) y a e = on (λ b. cond b (some x) (look (T .key y) xs) ≡ none → T .same (T .key y) (T .key x) ≡ b → Apart (x ∷ (xs ++ (y ∷ [])))) (T .same (T .key y) (T .key x))
+      (λ q h p. absurd (Option·none-ne-some x (sym h)))
+      (λ q h p. (miss-append (T .key x) xs y (a .0) (exact-sym (T .exact) (T .key x) (T .key y) ∙ p), apart-append xs y (a .1) h)) e refl
+
+  -- ── an entry renewed ──
+  pub keys-put : (y : A) (xs : List A) → keys (put y xs) ≡ keys xs
+  unfolding put
+  keys-put y [] = refl
+  keys-put y (x ∷ xs) = on (λ b. T .same (T .key y) (T .key x) ≡ b → keys (cond b (y ∷ xs) (x ∷ put y xs)) ≡ keys (x ∷ xs)) (T .same (T .key y) (T .key x))
+      (λ _ q. ap (λ k. k ∷ keys xs) (T .exact .only (T .key y) (T .key x) q)) (λ _ q. ap (λ l. T .key x ∷ l) (keys-put y xs)) refl
+
+  pub keys-steady : (s : Shift A) (xs : List A) → Steady s → keys (shifted s xs) ≡ keys xs
+  keys-steady stay xs h = refl
+  keys-steady (adds y) xs h = absurd h
+  keys-steady (puts y) xs h = keys-put y xs
+
+  pub look-put : (y : A) (xs : List A) {x : A} → look (T .key y) xs ≡ some x → look (T .key y) (put y xs) ≡ some y
+  unfolding look put
+  look-put y [] {x} e = absurd (Option·none-ne-some x e)
+  look-put y (a ∷ xs) {x} e = on (λ b. T .same (T .key y) (T .key a) ≡ b → cond b (some a) (look (T .key y) xs) ≡ some x → look (T .key y) (cond b (y ∷ xs) (a ∷ put y xs)) ≡ some y) (T .same (T .key y) (T .key a))
+      (λ _ q h. rw (T .exact .self (T .key y)) refl) (λ _ q h. rw q (look-put y xs h)) refl e
+
+  pub look-other : (k : K) (y : A) (xs : List A) → T .same k (T .key y) ≡ false → look k (put y xs) ≡ look k xs
+  unfolding look put
+  look-other k y [] n = refl
+  look-other k y (x ∷ xs) n = on (λ b. T .same (T .key y) (T .key x) ≡ b → look k (cond b (y ∷ xs) (x ∷ put y xs)) ≡ cond (T .same k (T .key x)) (some x) (look k xs)) (T .same (T .key y) (T .key x))
+      (λ _ q. rw (← T .exact .only (T .key y) (T .key x) q, n) refl) (λ _ q. ap (cond (T .same k (T .key x)) (some x)) (look-other k y xs n)) refl
+
+  pub map-put : {B : Type 0} (f : A → B) (y : A) (xs : List A) {x : A} → look (T .key y) xs ≡ some x → f y ≡ f x → map f (put y xs) ≡ map f xs
+  unfolding look put
+  map-put f y [] e p = refl
+  map-put f y (a ∷ xs) {x} e p = on (λ b. cond b (some a) (look (T .key y) xs) ≡ some x → map f (cond b (y ∷ xs) (a ∷ put y xs)) ≡ f a ∷ map f xs) (T .same (T .key y) (T .key a))
+      (λ q h. let r : a ≡ x = cc in cc) (λ q h. ap (λ l. f a ∷ l) (map-put f y xs h p)) e
+
+  pub sum-put : (f : A → ℕ) (y : A) (xs : List A) {x : A} → look (T .key y) xs ≡ some x → sum f (put y xs) + f x ≡ sum f xs + f y
+  unfolding look put
+  sum-put f y [] {x} e = absurd (Option·none-ne-some x e)
+  sum-put f y (a ∷ xs) {x} e = on (λ b. cond b (some a) (look (T .key y) xs) ≡ some x → sum f (cond b (y ∷ xs) (a ∷ put y xs)) + f x ≡ f a + sum f xs + f y) (T .same (T .key y) (T .key a))
+      (λ q h. let r : f a ≡ f x = cc in omega arith) (λ q h. omega (arith, sum-put f y xs h)) e
+
+  pub all-put : (P : A → Type 0) (y : A) (xs : List A) → All P xs → P y → All P (put y xs)
+  unfolding put
+  all-put P y [] a p = tt
+  all-put P y (x ∷ xs) a p = on (λ b. All P (cond b (y ∷ xs) (x ∷ put y xs))) (T .same (T .key y) (T .key x)) (λ q. (p, a .1)) (λ q. (a .0, all-put P y xs (a .1) p))
+
+  -- the entries with other keys keep what they have, or change it
+  all-others : (P Q : A → Type 0) (k : K) → ((x : A) → T .same k (T .key x) ≡ false → P x → Q x) → (xs : List A) → find (T .same k) (keys xs) ≡ none → All P xs → All Q xs
+  all-others P Q k f [] e a = tt
+  all-others P Q k f (x ∷ xs) e a = on (λ b. T .same k (T .key x) ≡ b → cond b (some (T .key x)) (find (T .same k) (keys xs)) ≡ none → Q x × All Q xs) (T .same k (T .key x))
+      (λ _ q h. absurd (Option·none-ne-some (T .key x) (sym h))) (λ _ q h. (f x q (a .0), all-others P Q k f xs h (a .1))) refl e
+
+  pub all-put-others : (P Q : A → Type 0) (y : A) → ((x : A) → T .same (T .key y) (T .key x) ≡ false → P x → Q x) → (xs : List A) → Apart xs → All P xs → Q y → All Q (put y xs)
+  unfolding put
+  all-put-others P Q y f [] d a p = tt
+  all-put-others P Q y f (x ∷ xs) d a p = on (λ b. T .same (T .key y) (T .key x) ≡ b → All Q (cond b (y ∷ xs) (x ∷ put y xs))) (T .same (T .key y) (T .key x))
+      (λ _ q. (p, all-others P Q (T .key y) f xs (rw (T .exact .only (T .key y) (T .key x) q) (d .0)) (a .1)))
+      (λ _ q. (f x q (a .0), all-put-others P Q y f xs (d .1) (a .1) p)) refl
+
+  -- where no two entries have one key, to renew the first is to change each that has it
+  unchanged : (k : K) (u : A → Bool) (f : A → A) → ((x : A) → u x ≡ true → T .same k (T .key x) ≡ true) → (xs : List A) → find (T .same k) (keys xs) ≡ none → map (λ x. cond (u x) (f x) x) xs ≡ xs
+  unchanged k u f h [] e = refl
+  unchanged k u f h (x ∷ xs) e = on (λ b. T .same k (T .key x) ≡ b → cond b (some (T .key x)) (find (T .same k) (keys xs)) ≡ none → cond (u x) (f x) x ∷ map (λ x. cond (u x) (f x) x) xs ≡ x ∷ xs) (T .same k (T .key x))
+      (λ _ q p. absurd (Option·none-ne-some (T .key x) (sym p)))
+      (λ _ q p. ap₂ {C = List A} (λ a l. a ∷ l) (split (λ z. z ≡ x) (u x) (f x) x (λ r. absurd (false≢true (sym q ∙ h x r))) (λ r. refl)) (unchanged k u f h xs p)) refl e
+
+  pub put-each : (k : K) (u : A → Bool) (f : A → A) → ((x : A) → u x ≡ true → T .same k (T .key x) ≡ true) → (xs : List A) {o : A} → Apart xs → look k xs ≡ some o → u o ≡ true → T .key (f o) ≡ k →
+      put (f o) xs ≡ map (λ x. cond (u x) (f x) x) xs
+  unfolding look put
+  put-each k u f h [] d e v c = refl
+  put-each k u f h (x ∷ xs) {o} d e v c = rw c (on (λ b. T .same k (T .key x) ≡ b → cond b (some x) (look k xs) ≡ some o → cond b (f o ∷ xs) (x ∷ put (f o) xs) ≡ cond (u x) (f x) x ∷ map (λ x. cond (u x) (f x) x) xs) (T .same k (T .key x))
+      (λ _ q p. let r : x ≡ o = cc in rw (r, v) (ap (λ l. f o ∷ l) (sym (unchanged k u f h xs (rw (T .exact .only k (T .key x) q) (d .0))))))
+      (λ _ q p. ap₂ {C = List A} (λ a l. a ∷ l) (split (λ z. x ≡ z) (u x) (f x) x (λ r. absurd (false≢true (sym q ∙ h x r))) (λ r. refl)) (put-each k u f h xs (d .1) p v c)) refl e)

@@ -1,0 +1,9 @@
+pub mod Lines
+pub mod Kept
+pub mod Prices
+pub mod Outcomes
+pub mod Judging
+pub mod Day
+pub mod Rules
+pub mod Cases
+pub mod Retries

@@ -1,0 +1,46 @@
+-- Document 01, "Outcomes" and "A whole day": what a record is answered, its answer line and a group's closing line.
+-- Numbers 21 to 23 are about lent buffers and lent memory, of which there is nothing here.
+use mathlib.Core.Bool.{Bool, true, false}
+use mathlib.Core.Option.{Option, Option·map}
+use mathlib.Core.List.{List, [], _∷_}
+use Prim.Native.Nat.{ℕ}
+use Prim.Native.Char.{code}
+use lib.ListN.{getElem?}
+use Rattle.rulebook.specs.Lines.{bytes, ceiling, Record, broken, open-day, group, symbol, ask, tell, Field, letter, number, identifier, mpid, serial, yes-no, Line, line, line-of}
+use Rattle.rulebook.specs.Kept.{Group, Books, Tally, tally}
+
+pub data Outcome : Type 0 where
+  passed booked seen refused aside : Outcome
+
+abbrev pub outcome-letter : Outcome → ℕ
+outcome-letter passed = code "P"
+outcome-letter booked = code "K"
+outcome-letter seen = code "S"
+outcome-letter refused = code "R"
+outcome-letter aside = code "A"
+
+-- `sent` is how many order messages are to be sent
+pub record Answer : Type 0 where
+  pub outcome : Outcome
+  pub number : ℕ
+  pub sent : ℕ
+
+-- "identifier or number (MPID for G, symbol for S, `-` for O)"
+abbrev pub name-of : Record → Field
+name-of broken = letter (bytes "-") (code "-")
+name-of (group m t) = mpid m
+name-of (symbol s) = serial s
+name-of open-day = letter (bytes "-") (code "-")
+name-of (ask r) = identifier (r .key .name)
+name-of (tell n w) = serial n
+
+abbrev pub answer-line : Record → Answer → Line
+answer-line x a = record { kind = line-of x .kind; fields = name-of x ∷ letter (bytes "PKSRA") (outcome-letter (a .outcome)) ∷ number 0 20 (a .number) ∷ number 0 1 (a .sent) ∷ [] }
+
+-- "E, MPID, TB, TS, OB, OS, Y or N for blocked"
+abbrev pub closing-line : Group → Tally → Line
+closing-line g t = line "E" (mpid (g .mpid) ∷ number 0 ceiling (t .tb) ∷ number 0 ceiling (t .ts) ∷ number 0 ceiling (t .ob) ∷ number 0 ceiling (t .os) ∷ yes-no (g .blocked) ∷ [])
+
+-- asked for by the group's place in listing order, from 0
+abbrev pub closing : Books → ℕ → Option Line
+closing b i = Option·map (λ g. closing-line g (tally g (b .ledger .orders))) (getElem? (b .ledger .groups) i)
