@@ -1,10 +1,11 @@
 -- Lists searched by a test and summed, and tables: lists whose entries are told by a key.
-use mathlib.Core.Path.{_≡_, refl, sym, ap, ap₂, _∙_}
+use mathlib.Core.Path.{_≡_, refl, sym, ap, ap₂, _∙_, subst}
 use mathlib.Core.Bool.{Bool, true, false, cond, false≢true}
-use mathlib.Core.Option.{Option, none, some, Option·none-ne-some}
+use mathlib.Core.Option.{Option, none, some, Option·none-ne-some, Option·some-injective}
 use mathlib.Core.List.{List, [], _∷_, _++_, map, map-append}
 use Prim.Native.Nat.{ℕ, zero, suc, _+_, _≤_, _<_}
 use native.Mathlib.Omega.{arith}
+use lib.ListN.{getElem?}
 use Rattle.laws.specs.Tests.{on, split, is-none, Exact, exact-sym}
 
 module _ {A : Type 0} where
@@ -34,13 +35,15 @@ module _ {A : Type 0} where
   all-append P [] y a p = (p, tt)
   all-append P (x ∷ xs) y a p = (a .0, all-append P xs y (a .1) p)
 
-  -- what a search passes over fails its test
-  pub all-miss : (t : A → Bool) (xs : List A) → find t xs ≡ none → All (λ x. t x ≡ false) xs
-  all-miss t [] e = tt
-  all-miss t (x ∷ xs) e = on (λ b. cond b (some x) (find t xs) ≡ none → (b ≡ false) × All (λ x. t x ≡ false) xs) (t x)
-      (λ q h. absurd (Option·none-ne-some x (sym h))) (λ q h. (refl, all-miss t xs h)) e
+  pub all-zip : (P Q R : A → Type 0) → ((x : A) → P x → Q x → R x) → (xs : List A) → All P xs → All Q xs → All R xs
+  all-zip P Q R f [] a b = tt
+  all-zip P Q R f (x ∷ xs) a b = (f x (a .0) (b .0), all-zip P Q R f xs (a .1) (b .1))
 
-  -- and what it finds passes it
+  pub map-same : (f : A → A) (xs : List A) → All (λ x. f x ≡ x) xs → map f xs ≡ xs
+  map-same f [] a = refl
+  map-same f (x ∷ xs) a = ap₂ {C = List A} (λ y l. y ∷ l) (a .0) (map-same f xs (a .1))
+
+  -- what a search finds passes its test
   pub find-true : (t : A → Bool) (xs : List A) {x : A} → find t xs ≡ some x → t x ≡ true
   find-true t [] {x} e = absurd (Option·none-ne-some x e)
   find-true t (y ∷ xs) {x} e = on (λ b. t y ≡ b → cond b (some y) (find t xs) ≡ some x → t x ≡ true) (t y)
@@ -50,6 +53,11 @@ module _ {A : Type 0} where
   all-find P t [] {x} a e = absurd (Option·none-ne-some x e)
   all-find P t (y ∷ xs) {x} a e = on (λ b. cond b (some y) (find t xs) ≡ some x → P x) (t y)
       (λ q h. let p : y ≡ x = cc in rw p at (a .0)) (λ q h. all-find P t xs (a .1) h) e
+
+  pub all-at : (P : A → Type 0) (xs : List A) (i : ℕ) {x : A} → All P xs → getElem? xs i ≡ some x → P x
+  all-at P [] i {x} a e = absurd (Option·none-ne-some x e)
+  all-at P (y ∷ xs) zero {x} a e = subst P (Option·some-injective y x e) (a .0)
+  all-at P (y ∷ xs) (suc i) a e = all-at P xs i (a .1) e
 
   pub sum-append : (f : A → ℕ) (xs ys : List A) → sum f (xs ++ ys) ≡ sum f xs + sum f ys
   sum-append f [] ys = omega arith
@@ -112,6 +120,9 @@ module _ {A K : Type 0} (T : Table A K) where
   unfolding look
   look-key k xs {x} e = T .exact .only k (T .key x) (find-true (λ x. T .same k (T .key x)) xs e)
 
+  pub look-self : (k : K) (xs : List A) {x : A} → look k xs ≡ some x → look (T .key x) xs ≡ some x
+  look-self k xs {x} e = subst (λ k. look k xs ≡ some x) (look-key k xs e) e
+
   pub all-look : (P : A → Type 0) (k : K) (xs : List A) {x : A} → All P xs → look k xs ≡ some x → P x
   unfolding look
   all-look P k xs a e = all-find P (λ x. T .same k (T .key x)) xs a e
@@ -132,6 +143,19 @@ module _ {A K : Type 0} (T : Table A K) where
   pub has-same : (k : K) (xs ys : List A) → keys xs ≡ keys ys → is-none (look k xs) ≡ is-none (look k ys)
   has-same k xs ys e = has-keys k xs ∙ ap (λ l. is-none (find (T .same k) l)) e ∙ sym (has-keys k ys)
 
+  -- entries among which a key is not found have other keys
+  pub others : (k : K) (xs : List A) → find (T .same k) (keys xs) ≡ none → All (λ x. T .same k (T .key x) ≡ false) xs
+  others k [] e = tt
+  others k (x ∷ xs) e = on (λ b. cond b (some (T .key x)) (find (T .same k) (keys xs)) ≡ none → (b ≡ false) × All (λ x. T .same k (T .key x) ≡ false) xs) (T .same k (T .key x))
+      (λ q h. absurd (Option·none-ne-some (T .key x) (sym h))) (λ q h. (refl, others k xs h)) e
+
+  -- an entry at a place is found by its key
+  pub look-at : (xs : List A) (i : ℕ) {x : A} → Apart xs → getElem? xs i ≡ some x → look (T .key x) xs ≡ some x
+  unfolding look
+  look-at [] i {x} d e = absurd (Option·none-ne-some x e)
+  look-at (y ∷ xs) zero {x} d e = rw (Option·some-injective y x e, T .exact .self (T .key x)) refl
+  look-at (y ∷ xs) (suc i) {x} d e = rw (exact-sym (T .exact) (T .key x) (T .key y), all-at (λ z. T .same (T .key y) (T .key z) ≡ false) xs i (others (T .key y) xs (d .0)) e) (look-at xs i (d .1) e)
+
   -- ── an entry more ──
   pub look-append : (k : K) (xs : List A) (y : A) {x : A} → look k xs ≡ some x → look k (xs ++ (y ∷ [])) ≡ some x
   unfolding look
@@ -139,11 +163,14 @@ module _ {A K : Type 0} (T : Table A K) where
   look-append k (a ∷ xs) y {x} e = on (λ b. cond b (some a) (look k xs) ≡ some x → cond b (some a) (look k (xs ++ (y ∷ []))) ≡ some x) (T .same k (T .key a))
       (λ q h. h) (λ q h. look-append k xs y h) e
 
-  pub look-last : (xs : List A) (y : A) → look (T .key y) xs ≡ none → look (T .key y) (xs ++ (y ∷ [])) ≡ some y
+  pub look-next : (k : K) (xs : List A) (y : A) → look k xs ≡ none → look k (xs ++ (y ∷ [])) ≡ cond (T .same k (T .key y)) (some y) none
   unfolding look
-  look-last [] y e = rw (T .exact .self (T .key y)) refl
-  look-last (a ∷ xs) y e = on (λ b. cond b (some a) (look (T .key y) xs) ≡ none → cond b (some a) (look (T .key y) (xs ++ (y ∷ []))) ≡ some y) (T .same (T .key y) (T .key a))
-      (λ q h. absurd (Option·none-ne-some a (sym h))) (λ q h. look-last xs y h) e
+  look-next k [] y e = refl
+  look-next k (a ∷ xs) y e = on (λ b. cond b (some a) (look k xs) ≡ none → cond b (some a) (look k (xs ++ (y ∷ []))) ≡ cond (T .same k (T .key y)) (some y) none) (T .same k (T .key a))
+      (λ q h. absurd (Option·none-ne-some a (sym h))) (λ q h. look-next k xs y h) e
+
+  pub look-last : (xs : List A) (y : A) → look (T .key y) xs ≡ none → look (T .key y) (xs ++ (y ∷ [])) ≡ some y
+  look-last xs y e = look-next (T .key y) xs y e ∙ ap (λ t. cond t (some y) none) (T .exact .self (T .key y))
 
   pub has-append : (k : K) (xs : List A) (y : A) → Has k xs → Has k (xs ++ (y ∷ []))
   unfolding look
@@ -187,6 +214,12 @@ module _ {A K : Type 0} (T : Table A K) where
   look-other k y (x ∷ xs) n = on (λ b. T .same (T .key y) (T .key x) ≡ b → look k (cond b (y ∷ xs) (x ∷ put y xs)) ≡ cond (T .same k (T .key x)) (some x) (look k xs)) (T .same (T .key y) (T .key x))
       (λ _ q. rw (← T .exact .only (T .key y) (T .key x) q, n) refl) (λ _ q. ap (cond (T .same k (T .key x)) (some x)) (look-other k y xs n)) refl
 
+  pub put-self : (xs : List A) {x : A} → look (T .key x) xs ≡ some x → put x xs ≡ xs
+  unfolding look put
+  put-self [] e = refl
+  put-self (y ∷ xs) {x} e = on (λ b. cond b (some y) (look (T .key x) xs) ≡ some x → cond b (x ∷ xs) (y ∷ put x xs) ≡ y ∷ xs) (T .same (T .key x) (T .key y))
+      (λ q h. ap (λ z. z ∷ xs) (sym (Option·some-injective y x h))) (λ q h. ap (λ l. y ∷ l) (put-self xs h)) e
+
   pub map-put : {B : Type 0} (f : A → B) (y : A) (xs : List A) {x : A} → look (T .key y) xs ≡ some x → f y ≡ f x → map f (put y xs) ≡ map f xs
   unfolding look put
   map-put f y [] e p = refl
@@ -204,25 +237,18 @@ module _ {A K : Type 0} (T : Table A K) where
   all-put P y [] a p = tt
   all-put P y (x ∷ xs) a p = on (λ b. All P (cond b (y ∷ xs) (x ∷ put y xs))) (T .same (T .key y) (T .key x)) (λ q. (p, a .1)) (λ q. (a .0, all-put P y xs (a .1) p))
 
-  -- the entries with other keys keep what they have, or change it
-  all-others : (P Q : A → Type 0) (k : K) → ((x : A) → T .same k (T .key x) ≡ false → P x → Q x) → (xs : List A) → find (T .same k) (keys xs) ≡ none → All P xs → All Q xs
-  all-others P Q k f [] e a = tt
-  all-others P Q k f (x ∷ xs) e a = on (λ b. T .same k (T .key x) ≡ b → cond b (some (T .key x)) (find (T .same k) (keys xs)) ≡ none → Q x × All Q xs) (T .same k (T .key x))
-      (λ _ q h. absurd (Option·none-ne-some (T .key x) (sym h))) (λ _ q h. (f x q (a .0), all-others P Q k f xs h (a .1))) refl e
-
+  -- the entries with other keys change what they have
   pub all-put-others : (P Q : A → Type 0) (y : A) → ((x : A) → T .same (T .key y) (T .key x) ≡ false → P x → Q x) → (xs : List A) → Apart xs → All P xs → Q y → All Q (put y xs)
   unfolding put
   all-put-others P Q y f [] d a p = tt
   all-put-others P Q y f (x ∷ xs) d a p = on (λ b. T .same (T .key y) (T .key x) ≡ b → All Q (cond b (y ∷ xs) (x ∷ put y xs))) (T .same (T .key y) (T .key x))
-      (λ _ q. (p, all-others P Q (T .key y) f xs (rw (T .exact .only (T .key y) (T .key x) q) (d .0)) (a .1)))
+      (λ _ q. (p, all-zip (λ x. T .same (T .key y) (T .key x) ≡ false) P Q f xs (others (T .key y) xs (rw (T .exact .only (T .key y) (T .key x) q) (d .0))) (a .1)))
       (λ _ q. (f x q (a .0), all-put-others P Q y f xs (d .1) (a .1) p)) refl
 
   -- where no two entries have one key, to renew the first is to change each that has it
   unchanged : (k : K) (u : A → Bool) (f : A → A) → ((x : A) → u x ≡ true → T .same k (T .key x) ≡ true) → (xs : List A) → find (T .same k) (keys xs) ≡ none → map (λ x. cond (u x) (f x) x) xs ≡ xs
-  unchanged k u f h [] e = refl
-  unchanged k u f h (x ∷ xs) e = on (λ b. T .same k (T .key x) ≡ b → cond b (some (T .key x)) (find (T .same k) (keys xs)) ≡ none → cond (u x) (f x) x ∷ map (λ x. cond (u x) (f x) x) xs ≡ x ∷ xs) (T .same k (T .key x))
-      (λ _ q p. absurd (Option·none-ne-some (T .key x) (sym p)))
-      (λ _ q p. ap₂ {C = List A} (λ a l. a ∷ l) (split (λ z. z ≡ x) (u x) (f x) x (λ r. absurd (false≢true (sym q ∙ h x r))) (λ r. refl)) (unchanged k u f h xs p)) refl e
+  unchanged k u f h xs e = map-same (λ x. cond (u x) (f x) x) xs
+      (all-map (λ x. T .same k (T .key x) ≡ false) _ (λ x q. split (λ z. z ≡ x) (u x) (f x) x (λ r. absurd (false≢true (sym q ∙ h x r))) (λ r. refl)) xs (others k xs e))
 
   pub put-each : (k : K) (u : A → Bool) (f : A → A) → ((x : A) → u x ≡ true → T .same k (T .key x) ≡ true) → (xs : List A) {o : A} → Apart xs → look k xs ≡ some o → u o ≡ true → T .key (f o) ≡ k →
       put (f o) xs ≡ map (λ x. cond (u x) (f x) x) xs

@@ -48,8 +48,8 @@ module _ {A : Type 0} {t : A → A → Bool} (e : Exact t) where
   exact-sym x y = on (λ b. b ≡ t y x) (t x y) (λ p. sym (rw (e .only x y p) (e .self y)))
       (λ p. on (λ b. false ≡ b) (t y x) (λ q. sym p ∙ rw (e .only y x q) (e .self x)) (λ q. refl))
 
-  pub exact-discrete : Discrete A
-  exact-discrete x y = on (λ b. Dec (x ≡ y)) (t x y) (λ p. yes (e .only x y p)) (λ p. no (λ q. false≢true (sym p ∙ rw q (e .self y))))
+  unfoldable pub exact-discrete : Discrete A
+  exact-discrete x y = (elim (t x y) as (λ b. t x y ≡ b → Dec (x ≡ y)) [ true ↦ λ p. yes (e .only x y p) | false ↦ λ p. no (λ q. false≢true (sym p ∙ rw q (e .self y))) ]) refl
 
 pub decide-exact : {A : Type 0} (d : Discrete A) → Exact (λ x y. decide (d x y))
 decide-exact d = record { self = λ x. decide-iff (d x x) .1 refl; only = λ x y p. decide-iff (d x y) .0 p }

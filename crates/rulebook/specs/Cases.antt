@@ -11,7 +11,7 @@ use borrow.Author.Tests.{ltb-true, ltb-false, leb-true, leb-false, lt-leb, ne-eq
 use Rattle.laws.specs.Tests.{on, split, opt, is-none, none-of}
 use Rattle.laws.specs.Tables.{look, Has, stay, adds, puts, shifted}
 use Rattle.laws.specs.Checks.{Check, _⇒_, first, Clear, each, first-cases}
-use Rattle.rulebook.specs.Lines.{Ident, Mpid, Key, Side, Terms, Deal, new, change, cancel, block, unblock, Request, News, quote, fill, reduction, cancel-refused, Record, broken, open-day, group, symbol, ask, tell, same-request, is-buy, ceiling}
+use Rattle.rulebook.specs.Lines.{Ident, Mpid, Key, Side, Metrics, Terms, Deal, new, change, cancel, block, unblock, Request, News, quote, fill, reduction, cancel-refused, Record, broken, open-day, group, symbol, ask, tell, same-request, is-buy, ceiling}
 use Rattle.rulebook.specs.Kept.{Figures, Order, Group, Symbol, Asked, Ledger, Books, by-mpid, by-id, by-key, by-request, new-group, new-symbol, new-order, remaining, is-open, with-figures, sized, asking, worked, traded, blocking, Tally, tally, metrics, limit-checks, tested}
 use Rattle.rulebook.specs.Outcomes.{passed, booked, seen, refused, aside}
 use Rattle.rulebook.specs.Judging.{Deed, deed, idle, Edit, nothing, opened, listed, remembered, taken, Ruling, hold, rule, found, named, new-checks, change-checks, change-ruling, cancel-ruling, deal-ruling, fill-ruling, reduction-ruling, refused-ruling, at-order, news-ruling, Verdict, verdict, reply, remember, judge-request, judge-notice, setup, judge}
@@ -148,9 +148,9 @@ judge-cases b P c (tell n w) = split (P (tell n w)) (b .opened) _ _
 pub record DealCases (l : Ledger) (g : Group) (k : Key) (P : Deal → Ruling → Type 0) : Type 0 where
   pub on-held : (d : Deal) (n : ℕ) → is-kept n ≡ true → P d (hold n)
   pub on-order : (s : ℕ) (x : Side) (z p : ℕ) → let o = new-order k s x z p in
-      Clear (new-checks g (look by-id s (l .symbols)) (tally g (shifted by-key (adds o) (l .orders))) o) → P (new s x z p) (grant (deed (adds o) stay stay))
-  pub on-change : (n : Ident) (z p : ℕ) (o : Order) → look by-key (named k n) (l .orders) ≡ some o → let f = sized z p (o .figures) in let u = puts (with-figures o f) in
-      Clear (change-checks g (look by-id (o .ticket .sym) (l .symbols)) (tally g (shifted by-key u (l .orders))) o f) → P (change n z p) (grant (deed u stay stay))
+      Has by-id s (l .symbols) → metrics (tally g (shifted by-key (adds o) (l .orders))) .gross-both ≤ g .terms .limits .gross-both → P (new s x z p) (grant (deed (adds o) stay stay))
+  pub on-change : (n : Ident) (z p : ℕ) (o : Order) → look by-key (named k n) (l .orders) ≡ some o → is-open o ≡ true → o .figures .done < z → let u = puts (with-figures o (sized z p (o .figures))) in
+      metrics (tally g (shifted by-key u (l .orders))) .gross-both ≤ g .terms .limits .gross-both → P (change n z p) (grant (deed u stay stay))
   pub on-cancel : (n : Ident) (o : Order) → look by-key (named k n) (l .orders) ≡ some o → is-open o ≡ true →
       P (cancel n) (grant (deed (puts (with-figures o (asking true (o .figures)))) stay stay))
   pub on-block : P block (grant (deed stay (puts (blocking true g)) stay))
@@ -161,19 +161,34 @@ unfolding Option·elim
 found-cases P n none f h k = h
 found-cases P n (some y) f h k = k y refl
 
+-- the lists of N and M: their numbers, and what they leave when they are clear
+limits-clear : (l m : Metrics) → Clear (limit-checks l m) → m .gross-both ≤ l .gross-both
+unfolding limit-checks
+limits-clear l m c = ltb-false (l .gross-both) (m .gross-both) (c .1 .1 .1 .1 .0)
+
 new-kept : (g : Group) (s : Option Symbol) (t : Tally) (o : Order) → each is-kept (new-checks g s t o) ≡ true
 unfolding new-checks limit-checks
 new-kept g s t o = refl
+
+new-clear : (g : Group) (s : Option Symbol) (t : Tally) (o : Order) → Clear (new-checks g s t o) → (is-none s ≡ false) × (metrics t .gross-both ≤ g .terms .limits .gross-both)
+unfolding new-checks
+new-clear g s t o c = (c .0, limits-clear _ _ (c .1 .1 .1 .1 .1 .1))
 
 change-kept : (g : Group) (s : Option Symbol) (t : Tally) (o : Order) (f : Figures) → each is-kept (change-checks g s t o f) ≡ true
 unfolding change-checks limit-checks
 change-kept g s t o f = refl
 
+change-clear : (g : Group) (s : Option Symbol) (t : Tally) (o : Order) (f : Figures) → Clear (change-checks g s t o f) → (is-open o ≡ true) × (f .done < f .size) × (metrics t .gross-both ≤ g .terms .limits .gross-both)
+unfolding change-checks
+change-clear g s t o f c = (not-false _ (c .0), leb-false (f .size) (f .done) (c .1 .1 .1 .1 .0), limits-clear _ _ (c .1 .1 .1 .1 .1 .1 .1))
+
 pub deal-cases : (l : Ledger) (g : Group) (k : Key) (P : Deal → Ruling → Type 0) → DealCases l g k P → (d : Deal) → P d (deal-ruling l g k d)
 unfolding deal-ruling first
-deal-cases l g k P c (new s x z p) = rule-cases (P (new s x z p)) is-kept kept-number (new-checks g _ _ _) _ (new-kept g _ _ _) (c .on-held (new s x z p)) (c .on-order s x z p)
+deal-cases l g k P c (new s x z p) = rule-cases (P (new s x z p)) is-kept kept-number (new-checks g _ _ _) _ (new-kept g _ _ _) (c .on-held (new s x z p))
+    (λ t. let h = new-clear g _ _ _ t in c .on-order s x z p (h .0) (h .1))
 deal-cases l g k P c (change n z p) = found-cases (P (change n z p)) 9 (look by-key (named k n) (l .orders)) (change-ruling l g z p) (c .on-held (change n z p) 9 refl)
-    (λ o e. rule-cases (P (change n z p)) is-kept kept-number (change-checks g _ _ o _) _ (change-kept g _ _ o _) (c .on-held (change n z p)) (c .on-change n z p o e))
+    (λ o e. rule-cases (P (change n z p)) is-kept kept-number (change-checks g _ _ o _) _ (change-kept g _ _ o _) (c .on-held (change n z p))
+    (λ t. let h = change-clear g _ _ o _ t in c .on-change n z p o e (h .0) (h .1) (h .2)))
 deal-cases l g k P c (cancel n) = found-cases (P (cancel n)) 9 (look by-key (named k n) (l .orders)) cancel-ruling (c .on-held (cancel n) 9 refl)
     (λ o e. rule-cases (P (cancel n)) is-kept kept-number ((not (is-open o) ⇒ 9) ∷ (o .figures .cancel-asked ⇒ 17) ∷ []) _ refl (c .on-held (cancel n)) (λ z. c .on-cancel n o e (not-false _ (z .0))))
 deal-cases l g k P c block = c .on-block

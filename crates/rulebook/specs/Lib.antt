@@ -7,3 +7,6 @@ pub mod Day
 pub mod Rules
 pub mod Cases
 pub mod Retries
+pub mod Sums
+pub mod Keeping
+pub mod Examples

@@ -29,12 +29,15 @@ pub record Ident : Type 0 where
   pub middle : ℕ
   pub tail : ℕ
 
-abbrev pub ident : List ℕ → Ident
-ident cs = record { head = word (take 8 cs); middle = word (take 8 (drop 8 cs)); tail = word (drop 16 cs) }
+abbrev pub ident-of : List ℕ → Ident
+ident-of cs = record { head = word (take 8 cs); middle = word (take 8 (drop 8 cs)); tail = word (drop 16 cs) }
 
 -- an MPID's four bytes in a word
 pub record Mpid : Type 0 where
   pub code : ℕ
+
+abbrev pub mpid-of : List ℕ → Mpid
+mpid-of cs = record { code = word cs }
 
 -- who owns an identifier: "Identifiers are kept per MPID"
 pub record Owner : Type 0 where
@@ -147,7 +150,7 @@ pub data Field : Type 0 where
   number : (low high value : ℕ) → Field
 
 abbrev pub Fits : Field → Type 0
-Fits (text least most takes x) = (cs : List ℕ) × (ident cs ≡ x) × (least ≤ length cs) × (length cs ≤ most) × All (λ c. takes c ≡ true) cs
+Fits (text least most takes x) = (cs : List ℕ) × (ident-of cs ≡ x) × (least ≤ length cs) × (length cs ≤ most) × All (λ c. takes c ≡ true) cs
 Fits (letter set c) = is-none (find (eqb c) set) ≡ false
 Fits (number low high n) = (low ≤ n) × (n ≤ high)
 

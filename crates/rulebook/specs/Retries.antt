@@ -30,8 +30,8 @@ Closed d = Steady (d .group) × Steady (d .symbol)
 pub deal-closed : (l : Ledger) (g : Group) (r : Request) → Closed (deal-ruling l g (r .key) (r .deal) .deed)
 deal-closed l g r = deal-cases l g (r .key) (λ d u. Closed (u .deed)) (record {
   on-held = λ d n h. (tt, tt);
-  on-order = λ s x z p c. (tt, tt);
-  on-change = λ n z p o e c. (tt, tt);
+  on-order = λ s x z p h c. (tt, tt);
+  on-change = λ n z p o e h d c. (tt, tt);
   on-cancel = λ n o e h. (tt, tt);
   on-block = (tt, tt);
   on-unblock = (tt, tt);

@@ -1,5 +1,5 @@
--- Document 01, "Outcomes", "State rules": one predicate, its fields in the order of the list there.
--- "Open values equal to the sums over the table": here they are those sums.
+-- Document 01, "Outcomes", "State rules": every rule of that list, of an order, of the ledger and of the books.
+-- "Open values equal to the sums over the table" is a rule of the memory: here they are those sums.
 use mathlib.Core.Path.{_≡_}
 use mathlib.Core.Bool.{Bool, true, false, _&&_, _||_, cond}
 use mathlib.Core.List.{List, [], _∷_, _++_, map}
@@ -8,7 +8,7 @@ use lib.ListN.{length}
 use lib.Dec.{leb, eqb}
 use Rattle.laws.specs.Tables.{All, Has, Apart}
 use Rattle.rulebook.specs.Lines.{ceiling, Record, group, symbol, ask, tell, quote, size, price, serial, Fits, Formed}
-use Rattle.rulebook.specs.Kept.{Order, Group, Symbol, Asked, Books, by-mpid, by-id, by-request, tally, metrics}
+use Rattle.rulebook.specs.Kept.{Order, Group, Symbol, Asked, Ledger, Books, by-mpid, by-id, by-request, tally, metrics}
 use Rattle.rulebook.specs.Day.{opened-by, deal-effect}
 
 -- the numbers that the table remembers of refusals
@@ -23,30 +23,42 @@ abbrev pub opened-in : List Asked → List Order
 opened-in [] = []
 opened-in (a ∷ l) = opened-at a ++ opened-in l
 
-pub record Sound (b : Books) : Type 0 where
+pub record SoundOrder (ss : List Symbol) (o : Order) : Type 0 where
+  -- every field in range
+  pub size-fits : Fits (size (o .figures .size))
+  pub price-fits : Fits (price (o .figures .price))
+  -- every order's symbol listed
+  pub listed : Has by-id (o .ticket .sym) ss
+  -- done at most size
+  pub done-within : o .figures .done ≤ o .figures .size
+
+pub record SoundLedger (l : Ledger) : Type 0 where
   -- counts within room
-  pub few-groups : length (b .ledger .groups) ≤ 64
-  pub few-symbols : length (b .ledger .symbols) ≤ 256
+  pub few-groups : length (l .groups) ≤ 64
+  pub few-symbols : length (l .symbols) ≤ 256
+  -- every field in range
+  pub groups-fit : All (λ g. Formed (group (g .mpid) (g .terms))) (l .groups)
+  pub symbols-fit : All (λ s. Formed (tell 1 (quote (s .id) (s .bid) (s .offer)))) (l .symbols)
+  pub orders-sound : All (SoundOrder (l .symbols)) (l .orders)
+  -- listed MPIDs and symbols distinct
+  pub groups-apart : Apart by-mpid (l .groups)
+  pub symbols-apart : Apart by-id (l .symbols)
+  -- gross of both at most the ceiling
+  pub gross-within : All (λ g. metrics (tally g (l .orders)) .gross-both ≤ ceiling) (l .groups)
+
+pub record Sound (b : Books) : Type 0 where
+  pub ledger : SoundLedger (b .ledger)
+  -- counts within room
   pub few-asked : length (b .asked) ≤ b .room
   pub small-room : b .room ≤ 65_535
   -- every field in range
   pub last-fits : b .last ≤ 4_294_967_295
-  pub groups-fit : All (λ g. Formed (group (g .mpid) (g .terms))) (b .ledger .groups)
-  pub symbols-fit : All (λ s. Formed (tell 1 (quote (s .id) (s .bid) (s .offer)))) (b .ledger .symbols)
   pub asked-fit : All (λ a. Formed (ask (a .request)) × ((eqb (a .number) 0 || is-kept (a .number)) ≡ true)) (b .asked)
-  pub orders-fit : All (λ o. Fits (size (o .figures .size)) × Fits (price (o .figures .price))) (b .ledger .orders)
-  -- listed MPIDs, symbols and identifier pairs distinct
-  pub groups-apart : Apart by-mpid (b .ledger .groups)
-  pub symbols-apart : Apart by-id (b .ledger .symbols)
+  -- listed identifier pairs distinct
   pub asked-apart : Apart by-request (b .asked)
-  -- every request's MPID and every order's symbol listed
+  -- every request's MPID listed
   pub asked-listed : All (λ a. Has by-mpid (a .request .key .owner .mpid) (b .ledger .groups)) (b .asked)
-  pub orders-listed : All (λ o. Has by-id (o .ticket .sym) (b .ledger .symbols)) (b .ledger .orders)
-  -- an order stands for each passed N of the table, in its order, and for nothing else
+  -- "An order is known all day by the identifier of its N": the orders are those of the passed N, in order of arrival
   pub orders-asked : map (λ (o : Order). o .ticket) (b .ledger .orders) ≡ map (λ (o : Order). o .ticket) (opened-in (b .asked))
   -- before O no place taken and every total 0
   pub before-open : b .opened ≡ false → (b .asked ≡ []) × All (λ (g : Group). (g .traded-buys ≡ 0) × (g .traded-sells ≡ 0)) (b .ledger .groups)
-  -- done at most size
-  pub done-within : All (λ o. o .figures .done ≤ o .figures .size) (b .ledger .orders)
-  -- gross of both at most the ceiling
-  pub gross-within : All (λ g. metrics (tally g (b .ledger .orders)) .gross-both ≤ ceiling) (b .ledger .groups)

@@ -1,0 +1,141 @@
+-- Document 01's sample day, and the starred cases of "Both sides of a line", computed from the definitions.
+use mathlib.Core.Path.{_≡_, refl}
+use mathlib.Core.Bool.{Bool, true, false, cond, decide}
+use mathlib.Core.Option.{Option, none, some, Option·elim}
+use mathlib.Core.List.{List, [], _∷_, _++_, map}
+use native.Mathlib.Decide.{ℕ-discrete}
+use Prim.Native.Nat.{ℕ}
+use Prim.Native.Char.{Char, code}
+use lib.Dec.{eqb}
+use Rattle.laws.specs.Tests.{exact-discrete}
+use Rattle.laws.specs.Tables.{look, put}
+use Rattle.laws.specs.Checks.{first}
+use Rattle.rulebook.specs.Lines.{bytes, word, ident-of, mpid-of, Mpid, Key, Side, buy, sell, ceiling, Metrics, Terms, Deal, new, change, cancel, Record, open-day, group, symbol, ask, tell, News, quote, fill, reduction, same-request, Field, letter, number, identifier, mpid, serial, yes-no, Line, line}
+use Rattle.rulebook.specs.Kept.{Books, open-value, worth, limit-checks, fresh-books}
+use Rattle.rulebook.specs.Prices.{bad-price, rows, off-market}
+use Rattle.rulebook.specs.Outcomes.{Outcome, passed, booked, refused, Answer, answer-line, closing}
+use Rattle.rulebook.specs.Judging.{enact, apply, new-checks, change-checks, deal-ruling, news-ruling, judge-request, judge-notice, judge}
+use Rattle.rulebook.specs.Day.{run, Entry, log}
+
+-- ── "A whole day" ──
+abbrev desk : Mpid
+desk = mpid-of (bytes "ABCD")
+
+-- the desk's identifiers T1 to T4
+abbrev name : Char → Key
+name c = record { owner = record { mpid = desk }; name = ident-of (code "T" ∷ code c ∷ []) }
+
+abbrev asks : Char → Deal → Record
+asks c d = ask (record { key = name c; deal = d })
+
+unfoldable pub sample : List Record
+sample =
+    group desk (record { limits = record { gross-trade = 5000000000; net-trade = 5000000000; gross-open = 2000000000; net-open = 2000000000; gross-both = 6000000000; net-both = 6000000000 }; max-size = 25000; short-sales = false })
+    ∷ symbol 7
+    ∷ open-day
+    ∷ tell 1 (quote 7 9990000 10000000)
+    ∷ asks "1" (new 7 buy 100 10000000)
+    ∷ asks "1" (new 7 buy 100 10000000)
+    ∷ asks "1" (new 7 buy 200 10000000)
+    ∷ asks "2" (new 7 buy 101 10000000)
+    ∷ tell 2 (fill (name "1") 40 9990000)
+    ∷ tell 2 (fill (name "1") 40 9990000)
+    ∷ asks "2" (new 7 buy 101 10000000)
+    ∷ tell 4 (reduction (name "1") 60)
+    ∷ asks "3" (cancel (name "1" .name))
+    ∷ tell 3 (reduction (name "1") 60)
+    ∷ asks "4" (change (name "1" .name) 100 10000000)
+    ∷ []
+
+-- an answer line: kind, name, outcome, number, sent
+abbrev answers : Char → Field → Char → ℕ → ℕ → Line
+answers kind field outcome n sent = line kind (field ∷ letter (bytes "PKSRA") (code outcome) ∷ number 0 20 n ∷ number 0 1 sent ∷ [])
+
+abbrev about : Char → Field
+about c = identifier (name c .name)
+
+unfoldable pub sample-answers : List Line
+sample-answers =
+    answers "G" (mpid desk) "P" 0 0
+    ∷ answers "S" (serial 7) "P" 0 0
+    ∷ answers "O" (letter (bytes "-") (code "-")) "P" 0 0
+    ∷ answers "Q" (serial 1) "K" 0 0
+    ∷ answers "N" (about "1") "P" 0 1
+    ∷ answers "N" (about "1") "P" 0 0
+    ∷ answers "N" (about "1") "R" 6 0
+    ∷ answers "N" (about "2") "R" 15 0
+    ∷ answers "F" (serial 2) "K" 0 0
+    ∷ answers "F" (serial 2) "S" 0 0
+    ∷ answers "N" (about "2") "R" 15 0
+    ∷ answers "D" (serial 4) "R" 18 0
+    ∷ answers "C" (about "3") "P" 0 1
+    ∷ answers "D" (serial 3) "K" 0 0
+    ∷ answers "M" (about "4") "R" 9 0
+    ∷ []
+
+abbrev total : ℕ → Field
+total = number 0 ceiling
+
+abbrev answer : Outcome → ℕ → ℕ → Answer
+answer o n s = record { outcome = o; number = n; sent = s }
+
+-- to unfold this is to let every definition of judging compute
+judging : Unit {0}
+unfolding word fresh-books judge judge-request judge-notice Option·elim look put first deal-ruling news-ruling new-checks change-checks limit-checks bad-price off-market rows open-value worth apply enact same-request decide ℕ-discrete exact-discrete
+judging = tt
+
+-- THEOREM. The sample day gets document 01's answers
+pub sample-answered : map (λ e. answer-line (e .line) (e .answer)) (log (fresh-books 400) sample) ≡ sample-answers
+unfolding judging sample sample-answers
+sample-answered = refl
+
+-- THEOREM. and its closing line, and no other
+pub sample-closed : map (closing (run (fresh-books 400) sample)) (0 ∷ 1 ∷ []) ≡ some (line "E" (mpid desk ∷ total 399600000 ∷ total 0 ∷ total 0 ∷ total 0 ∷ yes-no false ∷ [])) ∷ none ∷ []
+unfolding judging sample
+sample-closed = refl
+
+-- ── "Both sides of a line", the starred cases ──
+-- an N of one share at a price against a bid and an offer, 0 for none known, and the number that it gets
+pub record Case : Type 0 where
+  pub side : Side
+  pub price : ℕ
+  pub bid : ℕ
+  pub offer : ℕ
+  pub number : ℕ
+
+-- a buy against an offer, a sell against a bid
+abbrev buys : ℕ → ℕ → ℕ → Case
+buys o p n = record { side = buy; price = p; bid = 0; offer = o; number = n }
+
+abbrev sells : ℕ → ℕ → ℕ → Case
+sells b p n = record { side = sell; price = p; bid = b; offer = 0; number = n }
+
+unfoldable pub cases : List Case
+cases =
+    buys 10_000_000 11_000_000 14
+    ∷ buys 10_000_000 10_990_000 0
+    ∷ buys 9_000_000 9_900_000 14
+    ∷ buys 9_000_000 9_890_000 0
+    ∷ buys 99_000_000 108_950_000 0
+    ∷ buys 99_000_000 109_000_000 14
+    ∷ sells 100_000_000 90_000_000 14
+    ∷ sells 100_000_000 90_010_000 0
+    ∷ sells 100_000 50_000 0
+    ∷ buys 0 1_005_000 13
+    ∷ buys 0 999_900 0
+    ∷ buys 0 999_950 13
+    ∷ []
+
+-- a day that ends in the case: a desk without limits, a symbol, the quote, the N
+abbrev day : Case → List Record
+day c =
+    let l : Metrics = record { gross-trade = ceiling; net-trade = ceiling; gross-open = ceiling; net-open = ceiling; gross-both = ceiling; net-both = ceiling } in
+    group desk (record { limits = l; max-size = 1; short-sales = false }) ∷ symbol 7 ∷ open-day ∷ tell 1 (quote 7 (c .bid) (c .offer)) ∷ asks "1" (new 7 (c .side) 1 (c .price)) ∷ []
+
+abbrev setup-answers : List Answer
+setup-answers = answer passed 0 0 ∷ answer passed 0 0 ∷ answer passed 0 0 ∷ answer booked 0 0 ∷ []
+
+-- THEOREM. Every case gets its number, and is sent exactly if that is 0
+pub starred : map (λ c. map (λ (e : Entry). e .answer) (log (fresh-books 1) (day c))) cases ≡ map (λ c. setup-answers ++ (answer (cond (eqb (c .number) 0) passed refused) (c .number) (cond (eqb (c .number) 0) 1 0) ∷ [])) cases
+unfolding judging cases
+starred = refl
