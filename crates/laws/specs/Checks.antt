@@ -1,5 +1,5 @@
 -- Chains of checks: tests with numbers, of which the first that holds gives its own.
-use mathlib.Core.Path.{_≡_, refl}
+use mathlib.Core.Path.{_≡_}
 use mathlib.Core.Bool.{Bool, true, false, _&&_, cond, and-eq-true-iff}
 use mathlib.Core.List.{List, [], _∷_}
 use Prim.Native.Nat.{ℕ}
@@ -13,6 +13,10 @@ infixl 20 _⇒_
 unfoldable pub first : List Check → ℕ
 first [] = 0
 first ((t ⇒ n) ∷ l) = cond t n (first l)
+
+abbrev pub numbers : List Check → List ℕ
+numbers [] = []
+numbers ((t ⇒ n) ∷ l) = n ∷ numbers l
 
 -- no check holds
 abbrev pub Clear : List Check → Type 0

@@ -1,12 +1,12 @@
 -- Lists searched by a test and summed, and tables: lists whose entries are told by a key.
-use mathlib.Core.Path.{_≡_, refl, sym, ap, ap₂, _∙_, subst}
+use mathlib.Core.Path.{_≡_, refl, sym, ap, _∙_, subst}
 use mathlib.Core.Bool.{Bool, true, false, cond, false≢true}
-use mathlib.Core.Option.{Option, none, some, Option·none-ne-some, Option·some-injective}
-use mathlib.Core.List.{List, [], _∷_, _++_, map, map-append}
-use Prim.Native.Nat.{ℕ, zero, suc, _+_, _≤_, _<_}
+use mathlib.Core.Option.{Option, none, some, Option·map, Option·none-ne-some, Option·some-injective}
+use mathlib.Core.List.{List, [], _∷_, _++_, map}
+use Prim.Native.Nat.{ℕ, zero, suc, _+_}
 use native.Mathlib.Omega.{arith}
 use lib.ListN.{getElem?}
-use Rattle.laws.specs.Tests.{on, split, is-none, Exact, exact-sym}
+use Rattle.laws.specs.Tests.{on, opt, is-none, Exact, exact-sym}
 
 module _ {A : Type 0} where
   -- the first entry that passes the test
@@ -39,10 +39,6 @@ module _ {A : Type 0} where
   all-zip P Q R f [] a b = tt
   all-zip P Q R f (x ∷ xs) a b = (f x (a .0) (b .0), all-zip P Q R f xs (a .1) (b .1))
 
-  pub map-same : (f : A → A) (xs : List A) → All (λ x. f x ≡ x) xs → map f xs ≡ xs
-  map-same f [] a = refl
-  map-same f (x ∷ xs) a = ap₂ {C = List A} (λ y l. y ∷ l) (a .0) (map-same f xs (a .1))
-
   -- what a search finds passes its test
   pub find-true : (t : A → Bool) (xs : List A) {x : A} → find t xs ≡ some x → t x ≡ true
   find-true t [] {x} e = absurd (Option·none-ne-some x e)
@@ -59,18 +55,17 @@ module _ {A : Type 0} where
   all-at P (y ∷ xs) zero {x} a e = subst P (Option·some-injective y x e) (a .0)
   all-at P (y ∷ xs) (suc i) a e = all-at P xs i (a .1) e
 
+  pub sum-same : (f g : A → ℕ) (xs : List A) → All (λ x. f x ≡ g x) xs → sum f xs ≡ sum g xs
+  sum-same f g [] a = refl
+  sum-same f g (x ∷ xs) a = omega (arith, a .0, sum-same f g xs (a .1))
+
   pub sum-append : (f : A → ℕ) (xs ys : List A) → sum f (xs ++ ys) ≡ sum f xs + sum f ys
   sum-append f [] ys = omega arith
   sum-append f (x ∷ xs) ys = omega (arith, sum-append f xs ys)
 
-  pub sum-add : (f g h : A → ℕ) → ((x : A) → h x ≡ f x + g x) → (xs : List A) → sum h xs ≡ sum f xs + sum g xs
-  sum-add f g h e [] = omega arith
-  sum-add f g h e (x ∷ xs) = omega (arith, e x, sum-add f g h e xs)
-
-module _ {A B : Type 0} where
-  pub sum-map : (f : B → ℕ) (t : A → B) (xs : List A) → sum f (map t xs) ≡ sum (λ x. f (t x)) xs
-  sum-map f t [] = refl
-  sum-map f t (x ∷ xs) = ap (λ n. f (t x) + n) (sum-map f t xs)
+pub find-map : {A B : Type 0} (f : A → B) (t : B → Bool) (xs : List A) → find t (map f xs) ≡ Option·map f (find (λ x. t (f x)) xs)
+find-map f t [] = refl
+find-map f t (x ∷ xs) = on (λ b. cond b (some (f x)) (find t (map f xs)) ≡ Option·map f (cond b (some x) (find (λ x. t (f x)) xs))) (t (f x)) (λ q. refl) (λ q. find-map f t xs)
 
 -- what may happen to a table: nothing, an entry more at its end, an entry renewed
 pub data Shift (A : Type 0) : Type 0 where
@@ -127,18 +122,10 @@ module _ {A K : Type 0} (T : Table A K) where
   unfolding look
   all-look P k xs a e = all-find P (λ x. T .same k (T .key x)) xs a e
 
-  pub sum-look : (f : A → ℕ) (k : K) (xs : List A) {x : A} → look k xs ≡ some x → f x ≤ sum f xs
-  unfolding look
-  sum-look f k [] {x} e = absurd (Option·none-ne-some x e)
-  sum-look f k (y ∷ xs) {x} e = on (λ b. cond b (some y) (look k xs) ≡ some x → f x ≤ f y + sum f xs) (T .same k (T .key y))
-      (λ q h. let p : f y ≡ f x = cc in omega arith) (λ q h. omega (arith, sum-look f k xs h)) e
-
   -- whether a key is listed goes by the keys alone
-  pub has-keys : (k : K) (xs : List A) → is-none (look k xs) ≡ is-none (find (T .same k) (keys xs))
+  has-keys : (k : K) (xs : List A) → is-none (look k xs) ≡ is-none (find (T .same k) (keys xs))
   unfolding look
-  has-keys k [] = refl
-  has-keys k (x ∷ xs) = on (λ b. is-none (cond b (some x) (look k xs)) ≡ is-none (cond b (some (T .key x)) (find (T .same k) (keys xs)))) (T .same k (T .key x))
-      (λ q. refl) (λ q. has-keys k xs)
+  has-keys k xs = opt (λ o. is-none o ≡ is-none (Option·map (T .key) o)) (look k xs) (λ e. refl) (λ x e. refl) ∙ ap is-none (sym (find-map (T .key) (T .same k) xs))
 
   pub has-same : (k : K) (xs ys : List A) → keys xs ≡ keys ys → is-none (look k xs) ≡ is-none (look k ys)
   has-same k xs ys e = has-keys k xs ∙ ap (λ l. is-none (find (T .same k) l)) e ∙ sym (has-keys k ys)
@@ -245,15 +232,11 @@ module _ {A K : Type 0} (T : Table A K) where
       (λ _ q. (p, all-zip (λ x. T .same (T .key y) (T .key x) ≡ false) P Q f xs (others (T .key y) xs (rw (T .exact .only (T .key y) (T .key x) q) (d .0))) (a .1)))
       (λ _ q. (f x q (a .0), all-put-others P Q y f xs (d .1) (a .1) p)) refl
 
-  -- where no two entries have one key, to renew the first is to change each that has it
-  unchanged : (k : K) (u : A → Bool) (f : A → A) → ((x : A) → u x ≡ true → T .same k (T .key x) ≡ true) → (xs : List A) → find (T .same k) (keys xs) ≡ none → map (λ x. cond (u x) (f x) x) xs ≡ xs
-  unchanged k u f h xs e = map-same (λ x. cond (u x) (f x) x) xs
-      (all-map (λ x. T .same k (T .key x) ≡ false) _ (λ x q. split (λ z. z ≡ x) (u x) (f x) x (λ r. absurd (false≢true (sym q ∙ h x r))) (λ r. refl)) xs (others k xs e))
-
-  pub put-each : (k : K) (u : A → Bool) (f : A → A) → ((x : A) → u x ≡ true → T .same k (T .key x) ≡ true) → (xs : List A) {o : A} → Apart xs → look k xs ≡ some o → u o ≡ true → T .key (f o) ≡ k →
-      put (f o) xs ≡ map (λ x. cond (u x) (f x) x) xs
-  unfolding look put
-  put-each k u f h [] d e v c = refl
-  put-each k u f h (x ∷ xs) {o} d e v c = rw c (on (λ b. T .same k (T .key x) ≡ b → cond b (some x) (look k xs) ≡ some o → cond b (f o ∷ xs) (x ∷ put (f o) xs) ≡ cond (u x) (f x) x ∷ map (λ x. cond (u x) (f x) x) xs) (T .same k (T .key x))
-      (λ _ q p. let r : x ≡ o = cc in rw (r, v) (ap (λ l. f o ∷ l) (sym (unchanged k u f h xs (rw (T .exact .only k (T .key x) q) (d .0))))))
-      (λ _ q p. ap₂ {C = List A} (λ a l. a ∷ l) (split (λ z. x ≡ z) (u x) (f x) x (λ r. absurd (false≢true (sym q ∙ h x r))) (λ r. refl)) (put-each k u f h xs (d .1) p v c)) refl e)
+  -- where no two entries have one key, a sum that differs at one key differs by one entry
+  pub sum-one : (g h : A → ℕ) (k : K) → ((x : A) → T .same k (T .key x) ≡ false → h x ≡ g x) → (xs : List A) {o : A} → Apart xs → look k xs ≡ some o → sum h xs + g o ≡ sum g xs + h o
+  unfolding look
+  sum-one g h k f [] {o} d e = absurd (Option·none-ne-some o e)
+  sum-one g h k f (x ∷ xs) {o} d e = on (λ b. T .same k (T .key x) ≡ b → cond b (some x) (look k xs) ≡ some o → h x + sum h xs + g o ≡ g x + sum g xs + h o) (T .same k (T .key x))
+      (λ _ q p. let r : x ≡ o = Option·some-injective x o p in
+      omega (arith, ap g r, ap h r, sum-same h g xs (all-map (λ x. T .same k (T .key x) ≡ false) (λ x. h x ≡ g x) f xs (others k xs (rw (T .exact .only k (T .key x) q) (d .0))))))
+      (λ _ q p. omega (arith, f x q, sum-one g h k f xs (d .1) p)) refl e

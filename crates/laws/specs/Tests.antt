@@ -1,9 +1,8 @@
 -- What a test tells: a goal taken by the two values of a test or of a search, and tests that are equality.
-use mathlib.Core.Path.{_≡_, refl, sym, ap, _∙_}
+use mathlib.Core.Path.{_≡_, refl, sym, _∙_}
 use mathlib.Core.Bool.{Bool, true, false, _&&_, cond, decide, decide-iff, false≢true, and-eq-true-iff}
 use mathlib.Core.Option.{Option, none, some}
 use mathlib.Core.HLevel.{Discrete}
-use Prim.Native.Nat.{ℕ}
 use lib.Dec.{eqb}
 use borrow.Author.Tests.{eqb-true, eq-eqb}
 

@@ -1,6 +1,6 @@
 -- What a verdict can be. Judging is taken apart here once, and the theorems go by these cases.
-use mathlib.Core.Path.{_≡_, refl, sym, ap, _∙_, subst}
-use mathlib.Core.Bool.{Bool, true, false, not, _&&_, cond, false≢true, and-eq-true-iff}
+use mathlib.Core.Path.{_≡_, refl, sym, _∙_, subst}
+use mathlib.Core.Bool.{Bool, true, false, cond, false≢true, and-eq-true-iff}
 use mathlib.Core.Option.{Option, none, some, Option·elim}
 use mathlib.Core.List.{List, [], _∷_}
 use Prim.Native.Nat.{ℕ, suc, _*_, _≤_, _<_}
@@ -13,8 +13,7 @@ use Rattle.laws.specs.Tables.{look, Has, stay, adds, puts, shifted}
 use Rattle.laws.specs.Checks.{Check, _⇒_, first, Clear, each, first-cases}
 use Rattle.rulebook.specs.Lines.{Ident, Mpid, Key, Side, Metrics, Terms, Deal, new, change, cancel, block, unblock, Request, News, quote, fill, reduction, cancel-refused, Record, broken, open-day, group, symbol, ask, tell, same-request, is-buy, ceiling}
 use Rattle.rulebook.specs.Kept.{Figures, Order, Group, Symbol, Asked, Ledger, Books, by-mpid, by-id, by-key, by-request, new-group, new-symbol, new-order, remaining, is-open, with-figures, sized, asking, worked, traded, blocking, Tally, tally, metrics, limit-checks, tested}
-use Rattle.rulebook.specs.Outcomes.{passed, booked, seen, refused, aside}
-use Rattle.rulebook.specs.Judging.{Deed, deed, idle, Edit, nothing, opened, listed, remembered, taken, Ruling, hold, rule, found, named, new-checks, change-checks, change-ruling, cancel-ruling, deal-ruling, fill-ruling, reduction-ruling, refused-ruling, at-order, news-ruling, Verdict, verdict, reply, remember, judge-request, judge-notice, setup, judge}
+use Rattle.rulebook.specs.Judging.{Deed, deed, idle, Edit, nothing, opened, listed, Ruling, hold, rule, found, named, new-checks, change-checks, change-ruling, cancel-checks, cancel-ruling, deal-ruling, fill-checks, reduction-checks, refused-checks, at-order, news-ruling, Verdict, verdict, reply, remember, book, see, judge-request, judge-notice, setup, judge}
 use Rattle.rulebook.specs.Rules.{is-kept}
 
 -- ── checks ──
@@ -38,11 +37,11 @@ rule-cases P q pos l d e f g = first-cases (λ n. P (record { number = n; deed =
     (λ n h. subst (λ b. P (record { number = n; deed = cond b d idle })) (sym (number-not n (pos n h))) (f n h)) g
 
 abbrev pub pass : Edit → Verdict
-pass e = verdict passed refused 0 0 e
+pass e = verdict "P" "R" 0 0 e
 
 setup-cases : (P : Verdict → Type 0) (l : List Check) (e : Edit) → each is-number l ≡ true → ((n : ℕ) → P (reply n)) → (Clear l → P (pass e)) → P (setup l e)
-setup-cases P l e k f g = first-cases (λ n. P (verdict passed refused n 0 (cond (eqb n 0) e nothing))) is-number l k
-    (λ n h. subst (λ b. P (verdict passed refused n 0 (cond b e nothing))) (sym (number-not n h)) (f n)) g
+setup-cases P l e k f g = first-cases (λ n. P (verdict "P" "R" n 0 (cond (eqb n 0) e nothing))) is-number l k
+    (λ n h. subst (λ b. P (verdict "P" "R" n 0 (cond b e nothing))) (sym (number-not n h)) (f n)) g
 
 open-cases : (P : Verdict → Type 0) (o : Bool) → (o ≡ true → P (reply 2)) → (o ≡ false → P (pass opened)) → P (setup ((o ⇒ 2) ∷ []) opened)
 unfolding first
@@ -88,12 +87,6 @@ pub door-free : (b : Books) (r : Request) (g : Group) → Free b r g → at-door
 door-free b r g f = rw (f .desk, f .unknown, lt-leb (b .room) (length (b .asked)) (f .roomy)) refl
 
 -- ── notices ──
-abbrev pub see : Verdict
-see = verdict seen seen 0 0 nothing
-
-abbrev pub book : Ruling → Verdict
-book u = verdict booked aside (u .number) 0 (taken (u .deed))
-
 pub notice-cases : (b : Books) (n : ℕ) (w : News) (P : Verdict → Type 0) → (n ≤ b .last → P see) → (suc (b .last) < n → P (reply 18)) →
     (n ≡ suc (b .last) → P (book (news-ruling (b .ledger) w))) → P (judge-notice b n w)
 unfolding judge-notice
@@ -183,14 +176,14 @@ unfolding change-checks
 change-clear g s t o f c = (not-false _ (c .0), leb-false (f .size) (f .done) (c .1 .1 .1 .1 .0), limits-clear _ _ (c .1 .1 .1 .1 .1 .1 .1))
 
 pub deal-cases : (l : Ledger) (g : Group) (k : Key) (P : Deal → Ruling → Type 0) → DealCases l g k P → (d : Deal) → P d (deal-ruling l g k d)
-unfolding deal-ruling first
+unfolding deal-ruling first cancel-checks
 deal-cases l g k P c (new s x z p) = rule-cases (P (new s x z p)) is-kept kept-number (new-checks g _ _ _) _ (new-kept g _ _ _) (c .on-held (new s x z p))
     (λ t. let h = new-clear g _ _ _ t in c .on-order s x z p (h .0) (h .1))
 deal-cases l g k P c (change n z p) = found-cases (P (change n z p)) 9 (look by-key (named k n) (l .orders)) (change-ruling l g z p) (c .on-held (change n z p) 9 refl)
     (λ o e. rule-cases (P (change n z p)) is-kept kept-number (change-checks g _ _ o _) _ (change-kept g _ _ o _) (c .on-held (change n z p))
     (λ t. let h = change-clear g _ _ o _ t in c .on-change n z p o e (h .0) (h .1) (h .2)))
 deal-cases l g k P c (cancel n) = found-cases (P (cancel n)) 9 (look by-key (named k n) (l .orders)) cancel-ruling (c .on-held (cancel n) 9 refl)
-    (λ o e. rule-cases (P (cancel n)) is-kept kept-number ((not (is-open o) ⇒ 9) ∷ (o .figures .cancel-asked ⇒ 17) ∷ []) _ refl (c .on-held (cancel n)) (λ z. c .on-cancel n o e (not-false _ (z .0))))
+    (λ o e. rule-cases (P (cancel n)) is-kept kept-number (cancel-checks o) _ refl (c .on-held (cancel n)) (λ z. c .on-cancel n o e (not-false _ (z .0))))
 deal-cases l g k P c block = c .on-block
 deal-cases l g k P c unblock = c .on-unblock
 
@@ -216,15 +209,15 @@ order-cases : (l : Ledger) (k : Key) (P : Ruling → Type 0) (f : Group → Orde
 order-cases l k P f h c = found-cases P 5 _ _ (h 5 refl) (λ g e. found-cases P 9 _ _ (h 9 refl) (λ o q. c g o e q))
 
 pub news-cases : (l : Ledger) (P : News → Ruling → Type 0) → NewsCases l P → (w : News) → P w (news-ruling l w)
-unfolding news-ruling first
+unfolding news-ruling first fill-checks reduction-checks refused-checks
 news-cases l P c (quote s x y) = rule-cases (P (quote s x y)) is-number (λ n h. h) ((is-none (look by-id s (l .symbols)) ⇒ 8) ∷ []) _ refl (c .on-aside (quote s x y)) (λ z. c .on-quote s x y (z .0))
 news-cases l P c (fill k z p) = order-cases l k (P (fill k z p)) _ (c .on-aside (fill k z p))
     (λ g o e q. let t = tally (traded (is-buy (o .ticket .side)) (z * p) g) (shifted by-key (puts (with-figures o (worked z (o .figures)))) (l .orders)) in
-    rule-cases (P (fill k z p)) is-number (λ n h. h) ((not (is-open o) ⇒ 9) ∷ (ltb (remaining (o .figures)) z ⇒ 19) ∷ (ltb ceiling (metrics t .gross-both) ⇒ 20) ∷ []) _ refl (c .on-aside (fill k z p))
+    rule-cases (P (fill k z p)) is-number (λ n h. h) (fill-checks t z o) _ refl (c .on-aside (fill k z p))
     (λ t. c .on-fill k z p g o (record { desk = e; stands = q; is-live = not-false _ (t .0) }) (ltb-false _ _ (t .1 .0)) (ltb-false _ _ (t .1 .1 .0))))
 news-cases l P c (reduction k z) = order-cases l k (P (reduction k z)) _ (c .on-aside (reduction k z))
-    (λ g o e q. rule-cases (P (reduction k z)) is-number (λ n h. h) ((not (is-open o) ⇒ 9) ∷ (ltb (remaining (o .figures)) z ⇒ 19) ∷ []) _ refl (c .on-aside (reduction k z))
+    (λ g o e q. rule-cases (P (reduction k z)) is-number (λ n h. h) (reduction-checks z o) _ refl (c .on-aside (reduction k z))
     (λ t. c .on-reduction k z g o (record { desk = e; stands = q; is-live = not-false _ (t .0) }) (ltb-false _ _ (t .1 .0))))
 news-cases l P c (cancel-refused k) = order-cases l k (P (cancel-refused k)) _ (c .on-aside (cancel-refused k))
-    (λ g o e q. rule-cases (P (cancel-refused k)) is-number (λ n h. h) ((not (is-open o) ⇒ 9) ∷ []) _ refl (c .on-aside (cancel-refused k))
+    (λ g o e q. rule-cases (P (cancel-refused k)) is-number (λ n h. h) (refused-checks o) _ refl (c .on-aside (cancel-refused k))
     (λ t. c .on-refused k g o (record { desk = e; stands = q; is-live = not-false _ (t .0) })))

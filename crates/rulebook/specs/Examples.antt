@@ -1,20 +1,21 @@
 -- Document 01's sample day, and the starred cases of "Both sides of a line", computed from the definitions.
 use mathlib.Core.Path.{_≡_, refl}
-use mathlib.Core.Bool.{Bool, true, false, cond, decide}
+use mathlib.Core.Bool.{false, cond, decide}
 use mathlib.Core.Option.{Option, none, some, Option·elim}
-use mathlib.Core.List.{List, [], _∷_, _++_, map}
+use mathlib.Core.List.{List, [], _∷_, map}
 use native.Mathlib.Decide.{ℕ-discrete}
 use Prim.Native.Nat.{ℕ}
 use Prim.Native.Char.{Char, code}
+use lib.ListN.{replicate}
 use lib.Dec.{eqb}
 use Rattle.laws.specs.Tests.{exact-discrete}
 use Rattle.laws.specs.Tables.{look, put}
-use Rattle.laws.specs.Checks.{first}
-use Rattle.rulebook.specs.Lines.{bytes, word, ident-of, mpid-of, Mpid, Key, Side, buy, sell, ceiling, Metrics, Terms, Deal, new, change, cancel, Record, open-day, group, symbol, ask, tell, News, quote, fill, reduction, same-request, Field, letter, number, identifier, mpid, serial, yes-no, Line, line}
-use Rattle.rulebook.specs.Kept.{Books, open-value, worth, limit-checks, fresh-books}
+use Rattle.laws.specs.Checks.{first, numbers}
+use Rattle.rulebook.specs.Lines.{bytes, word, ident-of, mpid-of, Mpid, Key, Side, buy, sell, ceiling, Metrics, Deal, new, change, cancel, block, unblock, Record, open-day, group, symbol, ask, tell, quote, fill, reduction, same-request, Field, letter, number, identifier, mpid, serial, yes-no, Line, line}
+use Rattle.rulebook.specs.Kept.{Figures, Order, Group, Symbol, Tally, open-value, worth, limit-checks, fresh-books}
 use Rattle.rulebook.specs.Prices.{bad-price, rows, off-market}
-use Rattle.rulebook.specs.Outcomes.{Outcome, passed, booked, refused, Answer, answer-line, closing}
-use Rattle.rulebook.specs.Judging.{enact, apply, new-checks, change-checks, deal-ruling, news-ruling, judge-request, judge-notice, judge}
+use Rattle.rulebook.specs.Outcomes.{Answer, answer-line, closing}
+use Rattle.rulebook.specs.Judging.{enact, apply, new-checks, change-checks, cancel-checks, fill-checks, reduction-checks, refused-checks, deal-ruling, news-ruling, judge-request, judge-notice, judge}
 use Rattle.rulebook.specs.Day.{run, Entry, log}
 
 -- ── "A whole day" ──
@@ -76,12 +77,12 @@ sample-answers =
 abbrev total : ℕ → Field
 total = number 0 ceiling
 
-abbrev answer : Outcome → ℕ → ℕ → Answer
+abbrev answer : Char → ℕ → ℕ → Answer
 answer o n s = record { outcome = o; number = n; sent = s }
 
 -- to unfold this is to let every definition of judging compute
 judging : Unit {0}
-unfolding word fresh-books judge judge-request judge-notice Option·elim look put first deal-ruling news-ruling new-checks change-checks limit-checks bad-price off-market rows open-value worth apply enact same-request decide ℕ-discrete exact-discrete
+unfolding word fresh-books judge judge-request judge-notice Option·elim look put first deal-ruling news-ruling new-checks change-checks cancel-checks fill-checks reduction-checks refused-checks limit-checks bad-price off-market rows open-value worth apply enact same-request decide ℕ-discrete exact-discrete
 judging = tt
 
 -- THEOREM. The sample day gets document 01's answers
@@ -94,22 +95,85 @@ pub sample-closed : map (closing (run (fresh-books 400) sample)) (0 ∷ 1 ∷ []
 unfolding judging sample
 sample-closed = refl
 
--- ── "Both sides of a line", the starred cases ──
--- an N of one share at a price against a bid and an offer, 0 for none known, and the number that it gets
+-- ── "Readings that look right and are not" ──
+-- a desk that may have 20 dollars open
+unfoldable pub readings : List Record
+readings =
+    group desk (record { limits = record { gross-trade = ceiling; net-trade = ceiling; gross-open = 20_000_000; net-open = ceiling; gross-both = ceiling; net-both = ceiling }; max-size = 2; short-sales = false })
+    ∷ symbol 7
+    ∷ open-day
+    ∷ asks "1" (new 7 buy 1 10_000_000)
+    ∷ asks "2" unblock
+    ∷ asks "3" block
+    ∷ asks "2" unblock
+    ∷ asks "4" (new 7 buy 1 10_000_000)
+    ∷ asks "5" unblock
+    ∷ asks "6" (cancel (name "1" .name))
+    ∷ asks "7" (new 7 buy 2 10_000_000)
+    ∷ tell 1 (reduction (name "9") 1)
+    ∷ tell 1 (reduction (name "1") 1)
+    ∷ tell 2 (reduction (name "1") 1)
+    ∷ asks "7" (new 7 buy 2 10_000_000)
+    ∷ []
+
+-- the retried R lifts no later block; the passed C lowers no open value; the number of a notice set aside is taken; the refusal is not judged afresh
+unfoldable pub readings-answers : List Answer
+readings-answers =
+    answer "P" 0 0
+    ∷ answer "P" 0 0
+    ∷ answer "P" 0 0
+    ∷ answer "P" 0 1
+    ∷ answer "P" 0 0
+    ∷ answer "P" 0 0
+    ∷ answer "P" 0 0
+    ∷ answer "R" 10 0
+    ∷ answer "P" 0 0
+    ∷ answer "P" 0 1
+    ∷ answer "R" 15 0
+    ∷ answer "A" 9 0
+    ∷ answer "S" 0 0
+    ∷ answer "K" 0 0
+    ∷ answer "R" 15 0
+    ∷ []
+
+-- THEOREM. Four of them, in one day; the others are about price protection, below
+pub readings-answered : map (λ (e : Entry). e .answer) (log (fresh-books 400) readings) ≡ readings-answers
+unfolding judging readings readings-answers
+readings-answered = refl
+
+-- ── the order of refusals, at the end of "Outcomes" ──
+-- THEOREM. Each list of checks has the numbers that the paper gives its kind, in its order
+pub stated-order : (g : Group) (s : Option Symbol) (t : Tally) (o : Order) (f : Figures) (z : ℕ) →
+    (numbers (new-checks g s t o) ≡ 8 ∷ 10 ∷ 11 ∷ 12 ∷ 13 ∷ 14 ∷ replicate 6 15)
+    × (numbers (change-checks g s t o f) ≡ 9 ∷ 17 ∷ 10 ∷ 12 ∷ 16 ∷ 13 ∷ 14 ∷ replicate 6 15)
+    × (numbers (cancel-checks o) ≡ 9 ∷ 17 ∷ [])
+    × (numbers (fill-checks t z o) ≡ 9 ∷ 19 ∷ 20 ∷ [])
+    × (numbers (reduction-checks z o) ≡ 9 ∷ 19 ∷ [])
+    × (numbers (refused-checks o) ≡ 9 ∷ [])
+unfolding new-checks change-checks limit-checks cancel-checks fill-checks reduction-checks refused-checks
+stated-order g s t o f z = (refl, refl, refl, refl, refl, refl)
+
+-- ── "Both sides of a line" ──
+-- a buy or a sell of one share at a price against a bid and an offer, 0 for none known, by a desk with a limit on gross open and none else, and the number that it gets
 pub record Case : Type 0 where
   pub side : Side
   pub price : ℕ
   pub bid : ℕ
   pub offer : ℕ
+  pub open-limit : ℕ
   pub number : ℕ
 
--- a buy against an offer, a sell against a bid
+-- a buy against an offer, a sell against a bid, a buy against a limit
 abbrev buys : ℕ → ℕ → ℕ → Case
-buys o p n = record { side = buy; price = p; bid = 0; offer = o; number = n }
+buys o p n = record { side = buy; price = p; bid = 0; offer = o; open-limit = ceiling; number = n }
 
 abbrev sells : ℕ → ℕ → ℕ → Case
-sells b p n = record { side = sell; price = p; bid = b; offer = 0; number = n }
+sells b p n = record { side = sell; price = p; bid = b; offer = 0; open-limit = ceiling; number = n }
 
+abbrev limited : ℕ → ℕ → ℕ → Case
+limited l p n = record { side = buy; price = p; bid = 0; offer = 0; open-limit = l; number = n }
+
+-- 1 to 12 and 14, and a tenth of an offer that is no whole number of millionths
 unfoldable pub cases : List Case
 cases =
     buys 10_000_000 11_000_000 14
@@ -124,18 +188,22 @@ cases =
     ∷ buys 0 1_005_000 13
     ∷ buys 0 999_900 0
     ∷ buys 0 999_950 13
+    ∷ limited 10_000_000 10_000_000 0
+    ∷ limited 9_999_999 10_000_000 15
+    ∷ buys 15_009_091 16_510_000 0
     ∷ []
 
--- a day that ends in the case: a desk without limits, a symbol, the quote, the N
+-- a day that ends in the case: the desk, a symbol, the quote, the N
 abbrev day : Case → List Record
 day c =
-    let l : Metrics = record { gross-trade = ceiling; net-trade = ceiling; gross-open = ceiling; net-open = ceiling; gross-both = ceiling; net-both = ceiling } in
+    let l : Metrics = record { gross-trade = ceiling; net-trade = ceiling; gross-open = c .open-limit; net-open = ceiling; gross-both = ceiling; net-both = ceiling } in
     group desk (record { limits = l; max-size = 1; short-sales = false }) ∷ symbol 7 ∷ open-day ∷ tell 1 (quote 7 (c .bid) (c .offer)) ∷ asks "1" (new 7 (c .side) 1 (c .price)) ∷ []
 
-abbrev setup-answers : List Answer
-setup-answers = answer passed 0 0 ∷ answer passed 0 0 ∷ answer passed 0 0 ∷ answer booked 0 0 ∷ []
+-- what the case is to get, after setup and the quote: P and sent if its number is 0, else R
+abbrev due : Case → List Answer
+due c = answer "P" 0 0 ∷ answer "P" 0 0 ∷ answer "P" 0 0 ∷ answer "K" 0 0 ∷ cond (eqb (c .number) 0) (answer "P" 0 1) (answer "R" (c .number) 0) ∷ []
 
--- THEOREM. Every case gets its number, and is sent exactly if that is 0
-pub starred : map (λ c. map (λ (e : Entry). e .answer) (log (fresh-books 1) (day c))) cases ≡ map (λ c. setup-answers ++ (answer (cond (eqb (c .number) 0) passed refused) (c .number) (cond (eqb (c .number) 0) 1 0) ∷ [])) cases
+-- THEOREM. Every case gets its number
+pub both-sides : map (λ c. map (λ (e : Entry). e .answer) (log (fresh-books 1) (day c))) cases ≡ map due cases
 unfolding judging cases
-starred = refl
+both-sides = refl

@@ -1,18 +1,19 @@
 -- Document 01, "Requests and identifiers" and "Outcomes": how each record is judged, and what it changes.
 -- Each list of checks stands in the order that the end of "Outcomes" gives.
-use mathlib.Core.Bool.{Bool, true, false, not, _&&_, cond}
-use mathlib.Core.Option.{Option, none, some, Option·elim, Option·getD}
+use mathlib.Core.Bool.{true, false, not, _&&_, cond}
+use mathlib.Core.Option.{Option, Option·elim, Option·getD}
 use mathlib.Core.List.{List, [], _∷_, _++_}
 use Prim.Native.Nat.{ℕ, suc, _*_}
+use Prim.Native.Char.{Char}
 use lib.ListN.{length}
 use lib.Dec.{leb, ltb, eqb}
 use Rattle.laws.specs.Tests.{is-none}
 use Rattle.laws.specs.Tables.{look, Shift, stay, adds, puts, shifted}
 use Rattle.laws.specs.Checks.{Check, _⇒_, first}
-use Rattle.rulebook.specs.Lines.{Ident, Mpid, Key, is-buy, is-short, ceiling, Deal, new, change, cancel, block, unblock, Request, News, quote, fill, reduction, cancel-refused, Record, broken, open-day, group, symbol, ask, tell, same-request}
+use Rattle.rulebook.specs.Lines.{Ident, Key, is-buy, is-short, ceiling, Deal, new, change, cancel, block, unblock, Request, News, quote, fill, reduction, cancel-refused, Record, broken, open-day, group, symbol, ask, tell, same-request}
 use Rattle.rulebook.specs.Kept.{Figures, Order, Group, Symbol, Asked, Ledger, Books, by-mpid, by-id, by-key, by-request, new-group, new-symbol, new-order, remaining, is-open, with-figures, sized, asking, worked, traded, blocking, Tally, tally, metrics, limit-checks, tested}
 use Rattle.rulebook.specs.Prices.{bad-price, off-market}
-use Rattle.rulebook.specs.Outcomes.{Outcome, passed, booked, seen, refused, aside, Answer}
+use Rattle.rulebook.specs.Outcomes.{Answer}
 
 -- ── what is changed ──
 -- a deed: at most one order, one group and one symbol
@@ -91,6 +92,9 @@ change-checks g s t o f =
     ∷ (off-market (o .ticket .side) (f .price) (quotes s .bid) (quotes s .offer) ⇒ 14)
     ∷ limit-checks (g .terms .limits) (metrics t)
 
+unfoldable pub cancel-checks : Order → List Check
+cancel-checks o = (not (is-open o) ⇒ 9) ∷ (o .figures .cancel-asked ⇒ 17) ∷ []
+
 abbrev pub new-ruling : Ledger → Group → Order → Ruling
 new-ruling l g o = rule (new-checks g (look by-id (o .ticket .sym) (l .symbols)) (tally g (shifted by-key (adds o) (l .orders))) o) (deed (adds o) stay stay)
 
@@ -101,7 +105,7 @@ change-ruling l g z p o =
     rule (change-checks g (look by-id (o .ticket .sym) (l .symbols)) (tally g (shifted by-key s (l .orders))) o f) (deed s stay stay)
 
 abbrev pub cancel-ruling : Order → Ruling
-cancel-ruling o = rule ((not (is-open o) ⇒ 9) ∷ (o .figures .cancel-asked ⇒ 17) ∷ []) (deed (puts (with-figures o (asking true (o .figures)))) stay stay)
+cancel-ruling o = rule (cancel-checks o) (deed (puts (with-figures o (asking true (o .figures)))) stay stay)
 
 unfoldable pub deal-ruling : Ledger → Group → Key → Deal → Ruling
 deal-ruling l g k (new s x z p) = new-ruling l g (new-order k s x z p)
@@ -111,6 +115,16 @@ deal-ruling l g k block = rule [] (deed stay (puts (blocking true g)) stay)
 deal-ruling l g k unblock = rule [] (deed stay (puts (blocking false g)) stay)
 
 -- ── notices ──
+-- t is the group's tally with the fill
+unfoldable pub fill-checks : Tally → ℕ → Order → List Check
+fill-checks t z o = (not (is-open o) ⇒ 9) ∷ (ltb (remaining (o .figures)) z ⇒ 19) ∷ (ltb ceiling (metrics t .gross-both) ⇒ 20) ∷ []
+
+unfoldable pub reduction-checks : ℕ → Order → List Check
+reduction-checks z o = (not (is-open o) ⇒ 9) ∷ (ltb (remaining (o .figures)) z ⇒ 19) ∷ []
+
+unfoldable pub refused-checks : Order → List Check
+refused-checks o = (not (is-open o) ⇒ 9) ∷ []
+
 abbrev pub quote-ruling : List Symbol → Symbol → Ruling
 quote-ruling ss s = rule ((is-none (look by-id (s .id) ss) ⇒ 8) ∷ []) (deed stay stay (puts s))
 
@@ -119,15 +133,15 @@ fill-ruling os z p g o =
     let s = puts (with-figures o (worked z (o .figures))) in
     let h = traded (is-buy (o .ticket .side)) (z * p) g in
     let t = tally h (shifted by-key s os) in
-    rule ((not (is-open o) ⇒ 9) ∷ (ltb (remaining (o .figures)) z ⇒ 19) ∷ (ltb ceiling (metrics t .gross-both) ⇒ 20) ∷ []) (deed s (puts (tested h t)) stay)
+    rule (fill-checks t z o) (deed s (puts (tested h t)) stay)
 
 abbrev pub reduction-ruling : List Order → ℕ → Group → Order → Ruling
 reduction-ruling os z g o =
     let s = puts (with-figures o (worked z (o .figures))) in
-    rule ((not (is-open o) ⇒ 9) ∷ (ltb (remaining (o .figures)) z ⇒ 19) ∷ []) (deed s (puts (tested g (tally g (shifted by-key s os)))) stay)
+    rule (reduction-checks z o) (deed s (puts (tested g (tally g (shifted by-key s os)))) stay)
 
 abbrev pub refused-ruling : Group → Order → Ruling
-refused-ruling g o = rule ((not (is-open o) ⇒ 9) ∷ []) (deed (puts (with-figures o (asking false (o .figures)))) stay stay)
+refused-ruling g o = rule (refused-checks o) (deed (puts (with-figures o (asking false (o .figures)))) stay stay)
 
 -- 5, 9
 abbrev pub at-order : Ledger → Key → (Group → Order → Ruling) → Ruling
@@ -145,12 +159,12 @@ pub record Verdict : Type 0 where
   pub edit : Edit
 
 -- the first outcome if the number is 0, else the second
-abbrev pub verdict : Outcome → Outcome → ℕ → ℕ → Edit → Verdict
+abbrev pub verdict : Char → Char → ℕ → ℕ → Edit → Verdict
 verdict good bad n sent e = record { answer = record { outcome = cond (eqb n 0) good bad; number = n; sent = sent }; edit = e }
 
 -- refused with no effect, or a remembered outcome again
 abbrev pub reply : ℕ → Verdict
-reply n = verdict passed refused n 0 nothing
+reply n = verdict "P" "R" n 0 nothing
 
 -- "1 if an order message is to be sent (first P of N, M, C), else 0"
 abbrev pub messages : Deal → ℕ
@@ -161,7 +175,14 @@ messages block = 0
 messages unblock = 0
 
 abbrev pub remember : Request → Ruling → Verdict
-remember r u = verdict passed refused (u .number) (cond (eqb (u .number) 0) (messages (r .deal)) 0) (remembered (record { request = r; number = u .number }) (u .deed))
+remember r u = verdict "P" "R" (u .number) (cond (eqb (u .number) 0) (messages (r .deal)) 0) (remembered (record { request = r; number = u .number }) (u .deed))
+
+-- "the number is taken and, as A with nothing else changed", or K
+abbrev pub book : Ruling → Verdict
+book u = verdict "K" "A" (u .number) 0 (taken (u .deed))
+
+abbrev pub see : Verdict
+see = verdict "S" "S" 0 0 nothing
 
 -- ── judging ──
 -- 5, known identifier, 7
@@ -174,13 +195,10 @@ judge-request b r =
 
 -- "at or below the last is S with no effect; 18; then the number is taken"
 unfoldable pub judge-notice : Books → ℕ → News → Verdict
-judge-notice b n w =
-    cond (leb n (b .last)) (verdict seen seen 0 0 nothing)
-    (cond (ltb (suc (b .last)) n) (reply 18)
-    (let u = news-ruling (b .ledger) w in verdict booked aside (u .number) 0 (taken (u .deed))))
+judge-notice b n w = cond (leb n (b .last)) see (cond (ltb (suc (b .last)) n) (reply 18) (book (news-ruling (b .ledger) w)))
 
 abbrev pub setup : List Check → Edit → Verdict
-setup l e = verdict passed refused (first l) 0 (cond (eqb (first l) 0) e nothing)
+setup l e = verdict "P" "R" (first l) 0 (cond (eqb (first l) 0) e nothing)
 
 -- 1, 2, and then by kind
 unfoldable pub judge : Books → Record → Verdict

@@ -1,23 +1,22 @@
 -- The state rules hold of fresh books, and every record of every kind keeps them.
 -- Why: N, M and F test the gross after, and C, D and H raise no order's value; the rest is what each deed writes.
 use mathlib.Core.Path.{_≡_, refl, sym, ap, ap₂, _∙_, subst}
-use mathlib.Core.Bool.{Bool, true, false, _&&_, _||_, cond, Bool·beq, false≢true, or-true}
-use mathlib.Core.Option.{Option, none, some, Option·none-ne-some}
-use mathlib.Core.List.{List, [], _∷_, _++_, map, map-eq-nil-iff}
-use Prim.Native.Nat.{ℕ, suc, _+_, _*_, _-_, _≤_, _<_}
+use mathlib.Core.Bool.{Bool, true, false, _||_, cond, false≢true, or-true}
+use mathlib.Core.Option.{none, some}
+use mathlib.Core.List.{List, [], _∷_, _++_, map-eq-nil-iff}
+use Prim.Native.Nat.{ℕ, _+_, _≤_, _<_}
 use native.Mathlib.Omega.{arith}
 use native.Mathlib.Nat.{mul-le-mul-right}
 use lib.ListN.{length, length-append, length-map}
-use lib.Dec.{ltb, eqb}
-use borrow.Author.Tests.{ltb-true}
-use Rattle.laws.specs.Tests.{on, split, is-none, some-of, exact-sym}
-use Rattle.laws.specs.Tables.{sum, sum-append, All, Distinct, all-map, all-append, Shift, stay, adds, puts, Steady, look, put, shifted, Has, Apart, keys, look-key, look-self, all-look, has-same, has-append, apart-append, keys-put, put-self, sum-put, all-put, all-put-others}
-use Rattle.rulebook.specs.Lines.{Mpid, Key, same-mpid, mpid-exact, Terms, ceiling, Deal, Request, News, Record, group, symbol, ask, tell, quote, fill, reduction, cancel-refused, size, price, Fits, Formed}
-use Rattle.rulebook.specs.Kept.{Figures, Order, Group, Symbol, Asked, Ledger, Books, by-mpid, by-id, by-key, by-request, new-group, new-symbol, remaining, is-open, with-figures, asking, worked, blocking, open-value, is-of, worth, Tally, tally, metrics, fresh-books}
-use Rattle.rulebook.specs.Judging.{Deed, deed, idle, enact, apply, Ruling, hold, named, deal-ruling, news-ruling, judge}
+use lib.Dec.{eqb}
+use Rattle.laws.specs.Tests.{on, is-none, exact-sym}
+use Rattle.laws.specs.Tables.{sum, sum-append, All, Distinct, all-map, all-append, Shift, stay, adds, puts, look, put, shifted, Has, Apart, look-key, look-self, all-look, has-same, has-append, apart-append, keys-put, put-self, sum-put, all-put, all-put-others}
+use Rattle.rulebook.specs.Lines.{Mpid, Key, same-mpid, mpid-exact, Terms, ceiling, Deal, News, Record, group, symbol, ask, tell, quote, fill, reduction, cancel-refused, price, Formed}
+use Rattle.rulebook.specs.Kept.{Figures, Order, Group, Symbol, Asked, Ledger, Books, by-mpid, by-id, by-key, new-group, new-symbol, remaining, with-figures, asking, worked, blocking, open-value, is-of, worth, tally, metrics, fresh-books}
+use Rattle.rulebook.specs.Judging.{Deed, deed, enact, apply, Ruling, hold, named, deal-ruling, news-ruling}
 use Rattle.rulebook.specs.Day.{step, run}
-use Rattle.rulebook.specs.Rules.{is-kept, opened-in, SoundOrder, SoundLedger, Sound}
-use Rattle.rulebook.specs.Cases.{Cases, judge-cases, DealCases, deal-cases, Seen, NewsCases, news-cases}
+use Rattle.rulebook.specs.Rules.{is-kept, tickets-in, SoundOrder, SoundLedger, Sound}
+use Rattle.rulebook.specs.Cases.{judge-cases, deal-cases, news-cases}
 use Rattle.rulebook.specs.Retries.{Closed, deal-closed, news-closed, closed-listed}
 use Rattle.rulebook.specs.Sums.{Tidy, tidy-step}
 
@@ -204,7 +203,7 @@ deal-kept l g k d = deal-cases l g k (λ d u. (eqb (u .number) 0 || is-kept (u .
 
 -- before O there is no order
 no-orders : (b : Books) → Sound b → b .opened ≡ false → b .ledger .orders ≡ []
-no-orders b s h = map-eq-nil-iff (λ (o : Order). o .ticket) .0 (s .orders-asked ∙ ap (λ l. map (λ (o : Order). o .ticket) (opened-in l)) (s .before-open h .0))
+no-orders b s h = map-eq-nil-iff (λ (o : Order). o .ticket) .0 (s .orders-asked ∙ ap tickets-in (s .before-open h .0))
 
 -- THEOREM. A fresh state meets the state rules
 pub fresh-sound : (n : ℕ) → n ≤ 65_535 → Sound (fresh-books n)

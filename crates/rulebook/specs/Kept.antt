@@ -1,15 +1,14 @@
 -- Document 01, "What is kept": the books, an order's open value, and the six metrics of a group.
 -- Open values are no part of the books: they are the sums over the orders (the state rule that they are equal is the memory's).
 use mathlib.Core.Bool.{Bool, true, false, not, _&&_, _||_, cond, Bool·beq}
-use mathlib.Core.Option.{Option, none, some}
-use mathlib.Core.List.{List, [], _∷_, _++_}
+use mathlib.Core.List.{List, [], _∷_}
 use Prim.Native.Nat.{ℕ, _+_, _*_, _-_}
 use lib.IntN.{ℤ, pos, _-ℤ_, natAbs}
 use lib.Dec.{ltb, eqb}
 use Rattle.laws.specs.Tests.{eqb-exact}
-use Rattle.laws.specs.Tables.{Table, look, sum}
+use Rattle.laws.specs.Tables.{Table, sum}
 use Rattle.laws.specs.Checks.{Check, _⇒_, first}
-use Rattle.rulebook.specs.Lines.{Mpid, Key, Side, is-buy, Metrics, Terms, Request, ceiling, same-mpid, mpid-exact, same-key, key-exact}
+use Rattle.rulebook.specs.Lines.{Mpid, Key, Side, is-buy, Metrics, Terms, Request, same-mpid, mpid-exact, same-key, key-exact}
 
 -- what an order is all day, known by the identifier of its N
 pub record Ticket : Type 0 where

@@ -1,6 +1,6 @@
 -- Document 01, "The day's lines" and "Requests and identifiers": what a record is, and the form of each of its fields.
 -- A record is what a line says. Whether bytes are the line of a record is the line reader's to show.
-use mathlib.Core.Path.{_≡_, refl}
+use mathlib.Core.Path.{_≡_}
 use mathlib.Core.Bool.{Bool, true, false, not, _&&_, _||_, cond, decide}
 use mathlib.Core.List.{List, [], _∷_}
 use native.Mathlib.Decide.{ℕ-discrete}

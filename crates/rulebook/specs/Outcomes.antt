@@ -1,27 +1,16 @@
 -- Document 01, "Outcomes" and "A whole day": what a record is answered, its answer line and a group's closing line.
 -- Numbers 21 to 23 are about lent buffers and lent memory, of which there is nothing here.
-use mathlib.Core.Bool.{Bool, true, false}
 use mathlib.Core.Option.{Option, Option·map}
-use mathlib.Core.List.{List, [], _∷_}
+use mathlib.Core.List.{[], _∷_}
 use Prim.Native.Nat.{ℕ}
-use Prim.Native.Char.{code}
+use Prim.Native.Char.{Char, code}
 use lib.ListN.{getElem?}
 use Rattle.rulebook.specs.Lines.{bytes, ceiling, Record, broken, open-day, group, symbol, ask, tell, Field, letter, number, identifier, mpid, serial, yes-no, Line, line, line-of}
 use Rattle.rulebook.specs.Kept.{Group, Books, Tally, tally}
 
-pub data Outcome : Type 0 where
-  passed booked seen refused aside : Outcome
-
-abbrev pub outcome-letter : Outcome → ℕ
-outcome-letter passed = code "P"
-outcome-letter booked = code "K"
-outcome-letter seen = code "S"
-outcome-letter refused = code "R"
-outcome-letter aside = code "A"
-
--- `sent` is how many order messages are to be sent
+-- P passed, K booked, S seen, R refused, A set aside; the number is 0 for P, K, S; `sent` is how many order messages are to be sent
 pub record Answer : Type 0 where
-  pub outcome : Outcome
+  pub outcome : Char
   pub number : ℕ
   pub sent : ℕ
 
@@ -35,7 +24,7 @@ name-of (ask r) = identifier (r .key .name)
 name-of (tell n w) = serial n
 
 abbrev pub answer-line : Record → Answer → Line
-answer-line x a = record { kind = line-of x .kind; fields = name-of x ∷ letter (bytes "PKSRA") (outcome-letter (a .outcome)) ∷ number 0 20 (a .number) ∷ number 0 1 (a .sent) ∷ [] }
+answer-line x a = record { kind = line-of x .kind; fields = name-of x ∷ letter (bytes "PKSRA") (code (a .outcome)) ∷ number 0 20 (a .number) ∷ number 0 1 (a .sent) ∷ [] }
 
 -- "E, MPID, TB, TS, OB, OS, Y or N for blocked"
 abbrev pub closing-line : Group → Tally → Line

@@ -1,5 +1,5 @@
 -- Document 01, "Per-order checks (004)": the range and the tick of a price, and price protection.
-use mathlib.Core.Bool.{Bool, true, false, not, _&&_, _||_, cond}
+use mathlib.Core.Bool.{Bool, not, _&&_, _||_, cond}
 use mathlib.Core.List.{List, [], _∷_}
 use Prim.Native.Nat.{ℕ, _*_, _-_, _%_, max}
 use lib.Dec.{leb, ltb, eqb}

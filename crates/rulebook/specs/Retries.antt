@@ -6,18 +6,18 @@ use mathlib.Core.Option.{Option, none, some, Option·none-ne-some, Option·some-
 use mathlib.Core.List.{List, [], _∷_, _++_, foldl, foldl-append}
 use native.Mathlib.Decide.{ℕ-discrete}
 use native.Mathlib.Omega.{arith}
-use Prim.Native.Nat.{ℕ, suc, _≤_, _<_}
+use Prim.Native.Nat.{ℕ, suc, _≤_}
 use lib.ListN.{length}
 use lib.Dec.{leb, eqb}
 use borrow.Author.Tests.{lt-leb, leb-true, eq-eqb, ne-eqb, not-true}
 use Rattle.laws.specs.Tests.{on, split, is-none, some-of, Exact, exact-both, exact-discrete, decide-exact}
 use Rattle.laws.specs.Tables.{find, find-true, All, all-map, all-find, look, Steady, keys-steady, has-same, look-append, look-last}
-use Rattle.rulebook.specs.Lines.{Mpid, Deal, Deal-discrete, Side-discrete, ident-exact, key-exact, Request, News, Record, broken, open-day, group, symbol, ask, tell, same-request}
+use Rattle.rulebook.specs.Lines.{Mpid, Deal-discrete, Side-discrete, ident-exact, key-exact, Request, News, Record, broken, open-day, group, symbol, ask, tell, same-request}
 use Rattle.rulebook.specs.Kept.{Group, Asked, Ledger, Books, by-mpid, by-request, fresh-books}
-use Rattle.rulebook.specs.Outcomes.{Outcome, Answer, passed, refused}
-use Rattle.rulebook.specs.Judging.{Deed, enact, Edit, nothing, apply, Ruling, deal-ruling, news-ruling, Verdict, verdict, reply, remember, judge-request, judge-notice, judge}
+use Rattle.rulebook.specs.Outcomes.{Answer}
+use Rattle.rulebook.specs.Judging.{Deed, enact, nothing, apply, deal-ruling, news-ruling, Verdict, reply, judge, see}
 use Rattle.rulebook.specs.Day.{step, run, Entry, log, Marks, no-marks, noted, struck, strike, rest}
-use Rattle.rulebook.specs.Cases.{grant, see, door, at-door, Free, door-free, request-cases, notice-cases, judge-ask, judge-tell, Early, Cases, judge-cases, DealCases, deal-cases, NewsCases, news-cases}
+use Rattle.rulebook.specs.Cases.{door, at-door, door-free, request-cases, notice-cases, judge-ask, judge-tell, Early, judge-cases, deal-cases, news-cases}
 
 pub request-exact : Exact same-request
 unfolding same-request
@@ -102,8 +102,8 @@ keeps-run b r n s [] = s
 keeps-run b r n s (x ∷ xs) = keeps-run (step b x) r n (keeps b r n s x) xs
 
 -- a request's outcome goes by its number
-pub by-number : (b : Books) (r : Request) → b .opened ≡ true → judge b (ask r) .answer .outcome ≡ cond (eqb (judge b (ask r) .answer .number) 0) passed refused
-by-number b r o = rw (judge-ask b r o) (request-cases b r (λ v. v .answer .outcome ≡ cond (eqb (v .answer .number) 0) passed refused) (λ n e. refl) (λ g f. refl))
+pub by-number : (b : Books) (r : Request) → b .opened ≡ true → judge b (ask r) .answer .outcome ≡ cond (eqb (judge b (ask r) .answer .number) 0) "P" "R"
+by-number b r o = rw (judge-ask b r o) (request-cases b r (λ v. v .answer .outcome ≡ cond (eqb (v .answer .number) 0) "P" "R") (λ n e. refl) (λ g f. refl))
 
 -- what a retry is to get, from its first attempt's answer: its outcome and number, nothing sent, nothing changed
 abbrev pub repeated : Answer → Verdict

@@ -7,21 +7,21 @@ use Prim.Native.Nat.{ℕ, _≤_}
 use lib.ListN.{length}
 use lib.Dec.{leb, eqb}
 use Rattle.laws.specs.Tables.{All, Has, Apart}
-use Rattle.rulebook.specs.Lines.{ceiling, Record, group, symbol, ask, tell, quote, size, price, serial, Fits, Formed}
-use Rattle.rulebook.specs.Kept.{Order, Group, Symbol, Asked, Ledger, Books, by-mpid, by-id, by-request, tally, metrics}
-use Rattle.rulebook.specs.Day.{opened-by, deal-effect}
+use Rattle.rulebook.specs.Lines.{ceiling, group, ask, tell, quote, size, price, Fits, Formed}
+use Rattle.rulebook.specs.Kept.{Ticket, Order, Group, Symbol, Asked, Ledger, Books, by-mpid, by-id, by-request, tally, metrics}
+use Rattle.rulebook.specs.Account.{tickets, deal-effect}
 
 -- the numbers that the table remembers of refusals
 abbrev pub is-kept : ℕ → Bool
 is-kept n = leb 8 n && leb n 17
 
--- the orders that the passed N of the table opened
-abbrev pub opened-at : Asked → List Order
-opened-at a = cond (eqb (a .number) 0) (opened-by (deal-effect (a .request .key) (a .request .deal))) []
+-- the tickets of the table's passed N
+abbrev pub tickets-at : Asked → List Ticket
+tickets-at a = cond (eqb (a .number) 0) (tickets (deal-effect (a .request .key) (a .request .deal))) []
 
-abbrev pub opened-in : List Asked → List Order
-opened-in [] = []
-opened-in (a ∷ l) = opened-at a ++ opened-in l
+abbrev pub tickets-in : List Asked → List Ticket
+tickets-in [] = []
+tickets-in (a ∷ l) = tickets-at a ++ tickets-in l
 
 pub record SoundOrder (ss : List Symbol) (o : Order) : Type 0 where
   -- every field in range
@@ -59,6 +59,6 @@ pub record Sound (b : Books) : Type 0 where
   -- every request's MPID listed
   pub asked-listed : All (λ a. Has by-mpid (a .request .key .owner .mpid) (b .ledger .groups)) (b .asked)
   -- "An order is known all day by the identifier of its N": the orders are those of the passed N, in order of arrival
-  pub orders-asked : map (λ (o : Order). o .ticket) (b .ledger .orders) ≡ map (λ (o : Order). o .ticket) (opened-in (b .asked))
+  pub orders-asked : map (λ (o : Order). o .ticket) (b .ledger .orders) ≡ tickets-in (b .asked)
   -- before O no place taken and every total 0
   pub before-open : b .opened ≡ false → (b .asked ≡ []) × All (λ (g : Group). (g .traded-buys ≡ 0) × (g .traded-sells ≡ 0)) (b .ledger .groups)
