@@ -1,14 +1,14 @@
 -- What a verdict can be. Judging is taken apart here once, and the theorems go by these cases.
 use mathlib.Core.Path.{_≡_, refl, sym, _∙_, subst}
-use mathlib.Core.Bool.{Bool, true, false, cond, false≢true, and-eq-true-iff}
+use mathlib.Core.Bool.{Bool, true, false, _&&_, cond, false≢true, and-eq-true-iff}
 use mathlib.Core.Option.{Option, none, some, Option·elim}
 use mathlib.Core.List.{List, [], _∷_}
 use Prim.Native.Nat.{ℕ, suc, _*_, _≤_, _<_}
 use native.Mathlib.Omega.{arith}
 use lib.ListN.{length}
 use lib.Dec.{leb, ltb, eqb}
-use borrow.Author.Tests.{ltb-true, ltb-false, leb-true, leb-false, lt-leb, ne-eqb, not-false}
-use Rattle.laws.specs.Tests.{on, split, opt, is-none, none-of}
+use borrow.Author.Tests.{ltb-true, ltb-false, leb-true, leb-false, le-leb, lt-leb, ne-eqb, not-false}
+use Rattle.laws.specs.Tests.{split, opt, is-none, none-of}
 use Rattle.laws.specs.Tables.{look, Has, stay, adds, puts, shifted}
 use Rattle.laws.specs.Checks.{Check, _⇒_, first, Clear, each, first-cases}
 use Rattle.rulebook.specs.Lines.{Ident, Mpid, Key, Side, Metrics, Terms, Deal, new, change, cancel, block, unblock, Request, News, quote, fill, reduction, cancel-refused, Record, broken, open-day, group, symbol, ask, tell, same-request, is-buy, ceiling}
@@ -17,15 +17,19 @@ use Rattle.rulebook.specs.Judging.{Deed, deed, idle, Edit, nothing, open
 use Rattle.rulebook.specs.Rules.{is-kept}
 
 -- ── checks ──
+-- a number of the table that a record may get
 abbrev pub is-number : ℕ → Bool
-is-number n = ltb 0 n
+is-number n = leb 1 n && leb n 20
+
+pub number-range : (n : ℕ) → is-number n ≡ true → (1 ≤ n) × (n ≤ 20)
+number-range n h = let p = and-eq-true-iff (leb 1 n) (leb n 20) .0 h in (leb-true 1 n (p .0), leb-true n 20 (p .1))
 
 pub number-not : (n : ℕ) → is-number n ≡ true → eqb n 0 ≡ false
-number-not n h = ne-eqb n 0 (λ e. let p = ltb-true 0 n h in omega arith)
+number-not n h = ne-eqb n 0 (λ e. omega (arith, number-range n h))
 
 pub kept-number : (n : ℕ) → is-kept n ≡ true → is-number n ≡ true
-kept-number n h = on (λ b. ltb 0 n ≡ b → b ≡ true) (ltb 0 n) (λ _ e. refl)
-    (λ _ e. let p = and-eq-true-iff (leb 8 n) (leb n 17) .0 h in absurd (omega (arith, leb-true 8 n (p .0), ltb-false 0 n e))) refl
+kept-number n h = let p = and-eq-true-iff (leb 8 n) (leb n 17) .0 h in
+    and-eq-true-iff (leb 1 n) (leb n 20) .1 (le-leb 1 n (omega (arith, leb-true 8 n (p .0))), le-leb n 20 (omega (arith, leb-true n 17 (p .1))))
 
 abbrev pub grant : Deed → Ruling
 grant d = record { number = 0; deed = d }
@@ -39,9 +43,9 @@ rule-cases P q pos l d e f g = first-cases (λ n. P (record { number = n; deed =
 abbrev pub pass : Edit → Verdict
 pass e = verdict "P" "R" 0 0 e
 
-setup-cases : (P : Verdict → Type 0) (l : List Check) (e : Edit) → each is-number l ≡ true → ((n : ℕ) → P (reply n)) → (Clear l → P (pass e)) → P (setup l e)
+setup-cases : (P : Verdict → Type 0) (l : List Check) (e : Edit) → each is-number l ≡ true → ((n : ℕ) → is-number n ≡ true → P (reply n)) → (Clear l → P (pass e)) → P (setup l e)
 setup-cases P l e k f g = first-cases (λ n. P (verdict "P" "R" n 0 (cond (eqb n 0) e nothing))) is-number l k
-    (λ n h. subst (λ b. P (verdict "P" "R" n 0 (cond b e nothing))) (sym (number-not n h)) (f n)) g
+    (λ n h. subst (λ b. P (verdict "P" "R" n 0 (cond b e nothing))) (sym (number-not n h)) (f n h)) g
 
 open-cases : (P : Verdict → Type 0) (o : Bool) → (o ≡ true → P (reply 2)) → (o ≡ false → P (pass opened)) → P (setup ((o ⇒ 2) ∷ []) opened)
 unfolding first
@@ -113,7 +117,7 @@ Early b (ask r) = b .opened ≡ false
 Early b (tell n w) = b .opened ≡ true → suc (b .last) < n
 
 pub record Cases (b : Books) (P : Record → Verdict → Type 0) : Type 0 where
-  pub on-early : (x : Record) (n : ℕ) → Early b x → P x (reply n)
+  pub on-early : (x : Record) (n : ℕ) → is-number n ≡ true → Early b x → P x (reply n)
   pub on-open : b .opened ≡ false → P open-day (pass opened)
   pub on-group : (m : Mpid) (t : Terms) → b .opened ≡ false → look by-mpid m (b .ledger .groups) ≡ none → length (b .ledger .groups) < 64 →
       P (group m t) (pass (listed (deed stay (adds (new-group m t)) stay)))
@@ -126,16 +130,16 @@ pub record Cases (b : Books) (P : Record → Verdict → Type 0) : Type 0 where
 
 pub judge-cases : (b : Books) (P : Record → Verdict → Type 0) → Cases b P → (x : Record) → P x (judge b x)
 unfolding judge
-judge-cases b P c broken = c .on-early broken 1 tt
-judge-cases b P c (group m t) = setup-cases (P (group m t)) _ _ refl (λ n. c .on-early (group m t) n tt)
+judge-cases b P c broken = c .on-early broken 1 refl tt
+judge-cases b P c (group m t) = setup-cases (P (group m t)) _ _ refl (λ n h. c .on-early (group m t) n h tt)
     (λ z. c .on-group m t (z .0) (none-of _ (not-false _ (z .1 .0))) (leb-false 64 _ (z .1 .1 .0)))
-judge-cases b P c (symbol s) = setup-cases (P (symbol s)) _ _ refl (λ n. c .on-early (symbol s) n tt)
+judge-cases b P c (symbol s) = setup-cases (P (symbol s)) _ _ refl (λ n h. c .on-early (symbol s) n h tt)
     (λ z. c .on-symbol s (z .0) (none-of _ (not-false _ (z .1 .0))) (leb-false 256 _ (z .1 .1 .0)))
-judge-cases b P c open-day = open-cases (P open-day) (b .opened) (c .on-early open-day 2) (c .on-open)
-judge-cases b P c (ask r) = split (P (ask r)) (b .opened) _ _ (λ h. request-cases b r (P (ask r)) (λ n e. c .on-known r n h e) (λ g f. c .on-new r g h f)) (λ h. c .on-early (ask r) 2 h)
+judge-cases b P c open-day = open-cases (P open-day) (b .opened) (c .on-early open-day 2 refl) (c .on-open)
+judge-cases b P c (ask r) = split (P (ask r)) (b .opened) _ _ (λ h. request-cases b r (P (ask r)) (λ n e. c .on-known r n h e) (λ g f. c .on-new r g h f)) (λ h. c .on-early (ask r) 2 refl h)
 judge-cases b P c (tell n w) = split (P (tell n w)) (b .opened) _ _
-    (λ h. notice-cases b n w (P (tell n w)) (λ q. c .on-seen n w h q) (λ q. c .on-early (tell n w) 18 (λ z. q)) (λ q. c .on-next n w h q))
-    (λ h. c .on-early (tell n w) 2 (λ z. absurd (false≢true (sym h ∙ z))))
+    (λ h. notice-cases b n w (P (tell n w)) (λ q. c .on-seen n w h q) (λ q. c .on-early (tell n w) 18 refl (λ z. q)) (λ q. c .on-next n w h q))
+    (λ h. c .on-early (tell n w) 2 refl (λ z. absurd (false≢true (sym h ∙ z))))
 
 -- ── a request past the door ──
 pub record DealCases (l : Ledger) (g : Group) (k : Key) (P : Deal → Ruling → Type 0) : Type 0 where

@@ -11,8 +11,9 @@ use lib.ListN.{length, length-append, length-map}
 use lib.Dec.{eqb}
 use Rattle.laws.specs.Tests.{on, is-none, exact-sym}
 use Rattle.laws.specs.Tables.{sum, sum-append, All, Distinct, all-map, all-append, Shift, stay, adds, puts, look, put, shifted, Has, Apart, look-key, look-self, all-look, has-same, has-append, apart-append, keys-put, put-self, sum-put, all-put, all-put-others}
-use Rattle.rulebook.specs.Lines.{Mpid, Key, same-mpid, mpid-exact, Terms, ceiling, Deal, News, Record, group, symbol, ask, tell, quote, fill, reduction, cancel-refused, price, Formed}
+use Rattle.rulebook.specs.Lines.{Mpid, Key, same-mpid, mpid-exact, Terms, ceiling, Deal, News, Record, group, symbol, ask, tell, quote, fill, reduction, cancel-refused, price, Formed, Fits, serial, new, change, cancel, block, unblock, broken, open-day}
 use Rattle.rulebook.specs.Kept.{Figures, Order, Group, Symbol, Asked, Ledger, Books, by-mpid, by-id, by-key, new-group, new-symbol, remaining, with-figures, asking, worked, blocking, open-value, is-of, worth, tally, metrics, fresh-books}
+use Rattle.rulebook.specs.Outcomes.{name-of}
 use Rattle.rulebook.specs.Judging.{Deed, deed, enact, apply, Ruling, hold, named, deal-ruling, news-ruling}
 use Rattle.rulebook.specs.Day.{step, run}
 use Rattle.rulebook.specs.Rules.{is-kept, tickets-in, SoundOrder, SoundLedger, Sound}
@@ -189,9 +190,31 @@ news-keeps l n f w = news-cases l (λ w u. Formed (tell n w) → Keeps l u) (rec
       ledger-orders l g _ f (t .group) (t .standing) (t .owner) (puts-sound l _ f (asking-sound (l .symbols) o false (t .sound))) (lowers l k g o _ f (s .desk) (s .stands) (asking-value o false));
 }) w
 
+-- the name of a record in its form
+pub name-fits : (x : Record) → Formed x → Fits (name-of x)
+name-fits broken w = refl
+name-fits open-day w = refl
+name-fits (group m t) w = w .0
+name-fits (symbol s) w = w .0
+name-fits (ask r) w = deal (r .deal) w
+  where
+    deal : (d : Deal) → Formed (ask (record { key = r .key; deal = d })) → Fits (name-of (ask r))
+    deal (new s x z p) w = w .0
+    deal (change n z p) w = w .0
+    deal (cancel n) w = w .0
+    deal block w = w .0
+    deal unblock w = w .0
+name-fits (tell n w) v = news w v
+  where
+    news : (w : News) → Formed (tell n w) → Fits (serial n)
+    news (quote s x y) v = v .0
+    news (fill k z p) v = v .0
+    news (reduction k z) v = v .0
+    news (cancel-refused k) v = v .0
+
 -- ── the books ──
 -- the number of a ruling on a request is one that the table may remember
-deal-kept : (l : Ledger) (g : Group) (k : Key) (d : Deal) → let u = deal-ruling l g k d in (eqb (u .number) 0 || is-kept (u .number)) ≡ true
+pub deal-kept : (l : Ledger) (g : Group) (k : Key) (d : Deal) → let u = deal-ruling l g k d in (eqb (u .number) 0 || is-kept (u .number)) ≡ true
 deal-kept l g k d = deal-cases l g k (λ d u. (eqb (u .number) 0 || is-kept (u .number)) ≡ true) (record {
   on-held = λ d n h. rw h (or-true (eqb n 0));
   on-order = λ s x z p h c. refl;
@@ -255,17 +278,11 @@ listed-symbol l i f k w e = record {
 desks-listed : (d : Deed) (l : Ledger) (xs : List Asked) → Closed d → All (λ a. Has by-mpid (a .request .key .owner .mpid) (l .groups)) xs → All (λ a. Has by-mpid (a .request .key .owner .mpid) (enact d l .groups)) xs
 desks-listed d l xs c h = all-map _ _ (λ a z. closed-listed (a .request .key .owner .mpid) d l c ∙ z) xs h
 
-number-fits : (n : ℕ) (w : News) → Formed (tell n w) → n ≤ 4_294_967_295
-number-fits n (quote s x y) h = h .0 .1
-number-fits n (fill k z p) h = h .0 .1
-number-fits n (reduction k z) h = h .0 .1
-number-fits n (cancel-refused k) h = h .0 .1
-
 -- THEOREM. Every record in its form keeps them
 pub step-sound : (b : Books) (x : Record) → Sound b → Formed x → Sound (step b x)
 unfolding apply enact
 step-sound b x s w = judge-cases b (λ x v. Formed x → Tidy (apply (v .edit) b) → Sound (apply (v .edit) b)) (record {
-  on-early = λ x n q w t. s;
+  on-early = λ x n j q w t. s;
   on-open = λ h w t. record {
     ledger = s .ledger;
     few-asked = s .few-asked;
@@ -319,7 +336,7 @@ step-sound b x s w = judge-cases b (λ x v. Formed x → Tidy (apply (v .edit) b
     asked-fit = s .asked-fit;
     asked-apart = s .asked-apart;
     orders-asked = t .orders-asked;
-    last-fits = omega (arith, number-fits n v w);
+    last-fits = omega (arith, name-fits (tell n v) w);
     asked-listed = desks-listed (news-ruling (b .ledger) v .deed) (b .ledger) (b .asked) (news-closed (b .ledger) v) (s .asked-listed);
     before-open = λ z. absurd (false≢true (sym z ∙ h));
   };

@@ -12,4 +12,5 @@ pub mod Cases
 pub mod Retries
 pub mod Sums
 pub mod Keeping
+pub mod Forms
 pub mod Examples

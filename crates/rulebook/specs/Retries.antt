@@ -64,7 +64,7 @@ door-keeps false none q false g r n e h k = absurd (Option·none-ne-some n e)
 pub keeps : (b : Books) (r : Request) (n : ℕ) → Settled b r n → (x : Record) → Settled (step b x) r n
 unfolding Settled apply
 keeps b r n s x = judge-cases b (λ x v. Settled (apply (v .edit) b) r n) (record {
-  on-early = λ x k q. s;
+  on-early = λ x k j q. s;
   on-open = λ h. absurd (false≢true (sym h ∙ s .0));
   on-group = λ m t h q k. absurd (false≢true (sym h ∙ s .0));
   on-symbol = λ m h q k. absurd (false≢true (sym h ∙ s .0));
@@ -165,7 +165,7 @@ early-marks b s (tell n w) q = (refl, ap (λ t. cond t n (b .last)) (sym off))
 step-marks : (b : Books) (s : List Request) (x : Record) → Agree (noted (marks b s) x) (step b x)
 unfolding apply noted
 step-marks b s x = judge-cases b (λ x v. Agree (noted (marks b s) x) (apply (v .edit) b)) (record {
-  on-early = λ x k q. early-marks b s x q;
+  on-early = λ x k j q. early-marks b s x q;
   on-open = λ h. (refl, refl);
   on-group = λ m t h q k. (refl, refl);
   on-symbol = λ m h q k. (refl, refl);

@@ -175,7 +175,7 @@ news-acts l n w = news-cases l (λ w u. Acts l (enact (u .deed) l) (effect (tell
 pub acts : (b : Books) (x : Record) → Acts (b .ledger) (step b x .ledger) (effect x (judge b x .answer))
 unfolding apply enact
 acts b x = judge-cases b (λ x v. Acts (b .ledger) (apply (v .edit) b .ledger) (effect x (v .answer))) (record {
-  on-early = λ x n q. rests _ _ _ (reply-effect x n) refl (λ m c. refl);
+  on-early = λ x n j q. rests _ _ _ (reply-effect x n) refl (λ m c. refl);
   on-open = λ h. rests _ _ _ refl refl (λ m c. refl);
   on-group = λ k t h q j. rests _ _ _ refl refl (λ m c. total-listed m k c t (b .ledger .groups));
   on-symbol = λ s h q j. rests _ _ _ refl refl (λ m c. refl);
@@ -251,7 +251,7 @@ closed-apart d l c a = subst (Distinct same-mpid) (sym (keys-steady by-mpid (d .
 pub tidy-step : (b : Books) (x : Record) → Tidy b → Tidy (step b x)
 unfolding apply enact
 tidy-step b x t = judge-cases b (λ x v. Tidy (apply (v .edit) b)) (record {
-  on-early = λ x n q. t;
+  on-early = λ x n j q. t;
   on-open = λ h. record { groups-apart = t .groups-apart; asked-apart = t .asked-apart; orders-asked = t .orders-asked };
   on-group = λ m y h q k. record { groups-apart = apart-append by-mpid (b .ledger .groups) (new-group m y) (t .groups-apart) q; asked-apart = t .asked-apart; orders-asked = t .orders-asked };
   on-symbol = λ m h q k. record { groups-apart = t .groups-apart; asked-apart = t .asked-apart; orders-asked = t .orders-asked };
