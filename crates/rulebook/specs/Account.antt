@@ -7,7 +7,8 @@ use Prim.Native.Nat.{ℕ, _+_, _*_, _-_}
 use Prim.Native.Char.{code}
 use lib.Dec.{ltb, eqb}
 use Rattle.laws.specs.Tables.{find}
-use Rattle.rulebook.specs.Lines.{Mpid, Key, Deal, new, change, cancel, block, unblock, News, quote, fill, reduction, cancel-refused, Record, broken, open-day, group, symbol, ask, tell, same-key}
+use Rattle.rulebook.specs.Names.{Mpid, Key, same-key}
+use Rattle.rulebook.specs.Lines.{Deal, new, change, cancel, block, unblock, News, quote, fill, reduction, cancel-refused, Record, broken, open-day, group, symbol, ask, tell}
 use Rattle.rulebook.specs.Kept.{Ticket, Tally, is-of}
 use Rattle.rulebook.specs.Outcomes.{Answer}
 use Rattle.rulebook.specs.Judging.{named}

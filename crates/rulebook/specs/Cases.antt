@@ -11,7 +11,8 @@ use borrow.Author.Tests.{ltb-true, ltb-false, leb-true, leb-false, le-leb, lt-le
 use Rattle.laws.specs.Tests.{split, opt, is-none, none-of}
 use Rattle.laws.specs.Tables.{look, Has, stay, adds, puts, shifted}
 use Rattle.laws.specs.Checks.{Check, _⇒_, first, Clear, each, first-cases}
-use Rattle.rulebook.specs.Lines.{Ident, Mpid, Key, Side, Metrics, Terms, Deal, new, change, cancel, block, unblock, Request, News, quote, fill, reduction, cancel-refused, Record, broken, open-day, group, symbol, ask, tell, same-request, is-buy, ceiling}
+use Rattle.rulebook.specs.Names.{Ident, Mpid, Key}
+use Rattle.rulebook.specs.Lines.{Side, Metrics, Terms, Deal, new, change, cancel, block, unblock, Request, News, quote, fill, reduction, cancel-refused, Record, broken, open-day, group, symbol, ask, tell, same-request, is-buy, ceiling}
 use Rattle.rulebook.specs.Kept.{Figures, Order, Group, Symbol, Asked, Ledger, Books, by-mpid, by-id, by-key, by-request, new-group, new-symbol, new-order, remaining, is-open, with-figures, sized, asking, worked, traded, blocking, Tally, tally, metrics, limit-checks, tested}
 use Rattle.rulebook.specs.Judging.{Deed, deed, idle, Edit, nothing, opened, listed, Ruling, hold, rule, found, named, new-checks, change-checks, change-ruling, cancel-checks, cancel-ruling, deal-ruling, fill-checks, reduction-checks, refused-checks, at-order, news-ruling, Verdict, verdict, reply, remember, book, see, judge-request, judge-notice, setup, judge}
 use Rattle.rulebook.specs.Rules.{is-kept}

@@ -43,6 +43,9 @@ noted m open-day = record { opened = true; last = m .last; seen = m .seen }
 noted m (ask r) = record { opened = m .opened; last = m .last; seen = cond (m .opened) (r ∷ m .seen) (m .seen) }
 noted m (tell n w) = record { opened = m .opened; last = cond (m .opened && eqb n (suc (m .last))) n (m .last); seen = m .seen }
 
+abbrev pub marked : List Record → Marks
+marked xs = foldl noted no-marks xs
+
 -- "every request identical to an earlier one and every notice whose number was already taken"
 unfoldable pub struck : Marks → Record → Bool
 struck m broken = false

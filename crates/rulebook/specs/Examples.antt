@@ -11,7 +11,8 @@ use lib.Dec.{eqb}
 use Rattle.laws.specs.Tests.{exact-discrete}
 use Rattle.laws.specs.Tables.{look, put}
 use Rattle.laws.specs.Checks.{first, numbers}
-use Rattle.rulebook.specs.Lines.{bytes, word, ident-of, mpid-of, Mpid, Key, Side, buy, sell, ceiling, Metrics, Deal, new, change, cancel, block, unblock, Record, open-day, group, symbol, ask, tell, quote, fill, reduction, same-request, Field, letter, number, identifier, mpid, serial, yes-no, Line, line}
+use Rattle.rulebook.specs.Names.{bytes, word, ident-of, mpid-of, Mpid, Key}
+use Rattle.rulebook.specs.Lines.{Side, buy, sell, ceiling, Metrics, Deal, new, change, cancel, block, unblock, Record, open-day, group, symbol, ask, tell, quote, fill, reduction, same-request, Field, letter, number, identifier, mpid, serial, yes-no, Line, line}
 use Rattle.rulebook.specs.Kept.{Figures, Order, Group, Symbol, Tally, open-value, worth, limit-checks, fresh-books}
 use Rattle.rulebook.specs.Prices.{bad-price, rows, off-market}
 use Rattle.rulebook.specs.Outcomes.{Answer, answer-line, closing}

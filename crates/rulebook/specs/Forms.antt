@@ -10,7 +10,8 @@ use lib.Dec.{leb, eqb}
 use borrow.Author.Tests.{eqb-true}
 use Rattle.laws.specs.Tests.{on, split, opt, is-none}
 use Rattle.laws.specs.Tables.{All, all-at, look, all-look}
-use Rattle.rulebook.specs.Lines.{bytes, ceiling, Deal, new, change, cancel, block, unblock, Request, News, Record, group, ask, same-request, letter, Fits, Line, Formed}
+use Rattle.rulebook.specs.Names.{bytes}
+use Rattle.rulebook.specs.Lines.{ceiling, Deal, new, change, cancel, block, unblock, Request, News, Record, group, ask, same-request, letter, Fits, Line, Formed}
 use Rattle.rulebook.specs.Kept.{Group, Asked, Ledger, Books, by-mpid, by-request, tally, metrics}
 use Rattle.rulebook.specs.Outcomes.{Answer, answer-line, closing-line, closing}
 use Rattle.rulebook.specs.Judging.{deal-ruling, news-ruling, messages, judge}

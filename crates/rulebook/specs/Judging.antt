@@ -10,7 +10,8 @@ use lib.Dec.{leb, ltb, eqb}
 use Rattle.laws.specs.Tests.{is-none}
 use Rattle.laws.specs.Tables.{look, Shift, stay, adds, puts, shifted}
 use Rattle.laws.specs.Checks.{Check, _⇒_, first}
-use Rattle.rulebook.specs.Lines.{Ident, Key, is-buy, is-short, ceiling, Deal, new, change, cancel, block, unblock, Request, News, quote, fill, reduction, cancel-refused, Record, broken, open-day, group, symbol, ask, tell, same-request}
+use Rattle.rulebook.specs.Names.{Ident, Key}
+use Rattle.rulebook.specs.Lines.{is-buy, is-short, ceiling, Deal, new, change, cancel, block, unblock, Request, News, quote, fill, reduction, cancel-refused, Record, broken, open-day, group, symbol, ask, tell, same-request}
 use Rattle.rulebook.specs.Kept.{Figures, Order, Group, Symbol, Asked, Ledger, Books, by-mpid, by-id, by-key, by-request, new-group, new-symbol, new-order, remaining, is-open, with-figures, sized, asking, worked, traded, blocking, Tally, tally, metrics, limit-checks, tested}
 use Rattle.rulebook.specs.Prices.{bad-price, off-market}
 use Rattle.rulebook.specs.Outcomes.{Answer}

@@ -11,7 +11,8 @@ use lib.ListN.{length, length-append, length-map}
 use lib.Dec.{eqb}
 use Rattle.laws.specs.Tests.{on, is-none, exact-sym}
 use Rattle.laws.specs.Tables.{sum, sum-append, All, Distinct, all-map, all-append, Shift, stay, adds, puts, look, put, shifted, Has, Apart, look-key, look-self, all-look, has-same, has-append, apart-append, keys-put, put-self, sum-put, all-put, all-put-others}
-use Rattle.rulebook.specs.Lines.{Mpid, Key, same-mpid, mpid-exact, Terms, ceiling, Deal, News, Record, group, symbol, ask, tell, quote, fill, reduction, cancel-refused, price, Formed, Fits, serial, new, change, cancel, block, unblock, broken, open-day}
+use Rattle.rulebook.specs.Names.{Mpid, Key, same-mpid, mpid-exact}
+use Rattle.rulebook.specs.Lines.{Terms, ceiling, Deal, News, Record, group, symbol, ask, tell, quote, fill, reduction, cancel-refused, price, Formed, Fits, serial, new, change, cancel, block, unblock, broken, open-day}
 use Rattle.rulebook.specs.Kept.{Figures, Order, Group, Symbol, Asked, Ledger, Books, by-mpid, by-id, by-key, new-group, new-symbol, remaining, with-figures, asking, worked, blocking, open-value, is-of, worth, tally, metrics, fresh-books}
 use Rattle.rulebook.specs.Outcomes.{name-of}
 use Rattle.rulebook.specs.Judging.{Deed, deed, enact, apply, Ruling, hold, named, deal-ruling, news-ruling}

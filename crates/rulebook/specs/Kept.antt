@@ -8,7 +8,8 @@ use lib.Dec.{ltb, eqb}
 use Rattle.laws.specs.Tests.{eqb-exact}
 use Rattle.laws.specs.Tables.{Table, sum}
 use Rattle.laws.specs.Checks.{Check, _⇒_, first}
-use Rattle.rulebook.specs.Lines.{Mpid, Key, Side, is-buy, Metrics, Terms, Request, same-mpid, mpid-exact, same-key, key-exact}
+use Rattle.rulebook.specs.Names.{Mpid, Key, same-mpid, mpid-exact, same-key, key-exact}
+use Rattle.rulebook.specs.Lines.{Side, is-buy, Metrics, Terms, Request}
 
 -- what an order is all day, known by the identifier of its N
 pub record Ticket : Type 0 where

@@ -1,4 +1,5 @@
 -- Document 01 as definitions, in its order
+pub mod Names
 pub mod Lines
 pub mod Kept
 pub mod Prices

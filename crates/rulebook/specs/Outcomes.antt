@@ -5,7 +5,8 @@ use mathlib.Core.List.{[], _∷_}
 use Prim.Native.Nat.{ℕ}
 use Prim.Native.Char.{Char, code}
 use lib.ListN.{getElem?}
-use Rattle.rulebook.specs.Lines.{bytes, ceiling, Record, broken, open-day, group, symbol, ask, tell, Field, letter, number, identifier, mpid, serial, yes-no, Line, line, line-of}
+use Rattle.rulebook.specs.Names.{bytes}
+use Rattle.rulebook.specs.Lines.{ceiling, Record, broken, open-day, group, symbol, ask, tell, Field, letter, number, identifier, mpid, serial, yes-no, Line, line, line-of}
 use Rattle.rulebook.specs.Kept.{Group, Books, Tally, tally}
 
 -- P passed, K booked, S seen, R refused, A set aside; the number is 0 for P, K, S; `sent` is how many order messages are to be sent

@@ -12,11 +12,12 @@ use lib.Dec.{leb, eqb}
 use borrow.Author.Tests.{lt-leb, leb-true, eq-eqb, ne-eqb, not-true}
 use Rattle.laws.specs.Tests.{on, split, is-none, some-of, Exact, exact-both, exact-discrete, decide-exact}
 use Rattle.laws.specs.Tables.{find, find-true, All, all-map, all-find, look, Steady, keys-steady, has-same, look-append, look-last}
-use Rattle.rulebook.specs.Lines.{Mpid, Deal-discrete, Side-discrete, ident-exact, key-exact, Request, News, Record, broken, open-day, group, symbol, ask, tell, same-request}
+use Rattle.rulebook.specs.Names.{Mpid, ident-exact, key-exact}
+use Rattle.rulebook.specs.Lines.{Deal-discrete, Side-discrete, Request, News, Record, broken, open-day, group, symbol, ask, tell, same-request}
 use Rattle.rulebook.specs.Kept.{Group, Asked, Ledger, Books, by-mpid, by-request, fresh-books}
 use Rattle.rulebook.specs.Outcomes.{Answer}
 use Rattle.rulebook.specs.Judging.{Deed, enact, nothing, apply, deal-ruling, news-ruling, Verdict, reply, judge, see}
-use Rattle.rulebook.specs.Day.{step, run, Entry, log, Marks, no-marks, noted, struck, strike, rest}
+use Rattle.rulebook.specs.Day.{step, run, Entry, log, Marks, no-marks, noted, marked, struck, strike, rest}
 use Rattle.rulebook.specs.Cases.{door, at-door, door-free, request-cases, notice-cases, judge-ask, judge-tell, Early, judge-cases, deal-cases, news-cases}
 
 pub request-exact : Exact same-request
@@ -256,8 +257,12 @@ first-attempt r m (x ∷ xs) e h = on (λ t. struck (noted m x) (ask r) ≡ t �
     (λ _ q. let f = first-attempt r (noted m x) xs q h in
     record { before = x ∷ f .before; between = f .between; parts = ap (λ l. x ∷ l) (f .parts); is-open = f .is-open; is-first = f .is-first }) refl
 
+-- THEOREM. What a day strikes changes nothing
+pub struck-unchanged : (n : ℕ) (xs : List Record) (x : Record) → struck (marked xs) x ≡ true → step (run (fresh-books n) xs) x ≡ run (fresh-books n) xs
+struck-unchanged n xs x h = struck-step (marked xs) (run (fresh-books n) xs) (linked-run no-marks (fresh-books n) (fresh-linked n) xs) x h
+
 -- THEOREM. Every struck request of a day has a first attempt, gets its outcome and number, sends nothing and changes nothing
-pub struck-request : (n : ℕ) (xs : List Record) (r : Request) → struck (foldl noted no-marks xs) (ask r) ≡ true →
+pub struck-request : (n : ℕ) (xs : List Record) (r : Request) → struck (marked xs) (ask r) ≡ true →
     (f : FirstAttempt r no-marks xs) × (judge (run (fresh-books n) xs) (ask r) ≡ repeated (judge (run (fresh-books n) (f .before)) (ask r) .answer))
 unfolding struck
 struck-request n xs r h =
@@ -267,10 +272,10 @@ struck-request n xs r h =
     (f, ap (λ l. judge (run (fresh-books n) l) (ask r)) (f .parts) ∙ ap (λ z. judge z (ask r)) (foldl-append step (fresh-books n) (f .before) (ask r ∷ f .between)) ∙ retry b r (f .between) o)
 
 -- THEOREM. Every struck notice of a day is seen, and changes nothing
-pub struck-notice : (n : ℕ) (xs : List Record) (k : ℕ) (w : News) → struck (foldl noted no-marks xs) (tell k w) ≡ true → judge (run (fresh-books n) xs) (tell k w) ≡ see
+pub struck-notice : (n : ℕ) (xs : List Record) (k : ℕ) (w : News) → struck (marked xs) (tell k w) ≡ true → judge (run (fresh-books n) xs) (tell k w) ≡ see
 unfolding struck
 struck-notice n xs k w h =
-    let m = foldl noted no-marks xs in
+    let m = marked xs in
     let l = linked-run no-marks (fresh-books n) (fresh-linked n) xs in
     let z = and-eq-true-iff (m .opened) (leb k (m .last)) .0 h in
     late (run (fresh-books n) xs) k w (l .opened ∙ z .0) (omega (arith, leb-true k (m .last) (z .1), l .last))

@@ -11,7 +11,8 @@ use lib.ListN.{getElem?}
 use lib.Dec.{eqb}
 use Rattle.laws.specs.Tests.{on, split, opt}
 use Rattle.laws.specs.Tables.{find, find-map, sum, sum-append, Distinct, look, put, Apart, keys, look-key, look-self, look-at, look-put, look-other, look-append, look-next, apart-append, keys-steady, map-put, sum-put, sum-one}
-use Rattle.rulebook.specs.Lines.{Mpid, Key, same-mpid, same-key, mpid-exact, key-exact, Terms, Deal, new, change, cancel, block, unblock, Request, News, quote, fill, reduction, cancel-refused, Record, broken, open-day, group, symbol, ask, tell, is-buy}
+use Rattle.rulebook.specs.Names.{Mpid, Key, same-mpid, same-key, mpid-exact, key-exact}
+use Rattle.rulebook.specs.Lines.{Terms, Deal, new, change, cancel, block, unblock, Request, News, quote, fill, reduction, cancel-refused, Record, broken, open-day, group, symbol, ask, tell, is-buy}
 use Rattle.rulebook.specs.Kept.{Figures, Ticket, Order, Group, Asked, Ledger, Books, by-mpid, by-key, by-request, new-group, new-order, is-open, with-figures, sized, worked, asking, traded, blocking, tested, tally, is-of, open-value, worth, fresh-books}
 use Rattle.rulebook.specs.Outcomes.{Answer, closing-line, closing}
 use Rattle.rulebook.specs.Judging.{Deed, deed, enact, named, apply, Ruling, deal-ruling, news-ruling, reply, messages, remember, book, judge}
