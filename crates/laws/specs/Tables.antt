@@ -42,8 +42,8 @@ module _ {A : Type 0} where
   -- what a search finds passes its test
   pub find-true : (t : A → Bool) (xs : List A) {x : A} → find t xs ≡ some x → t x ≡ true
   find-true t [] {x} e = absurd (Option·none-ne-some x e)
-  find-true t (y ∷ xs) {x} e = on (λ b. t y ≡ b → cond b (some y) (find t xs) ≡ some x → t x ≡ true) (t y)
-      (λ _ q h. let p : y ≡ x = cc in cc) (λ _ q h. find-true t xs h) refl e
+  find-true t (y ∷ xs) {x} e = on (λ b. cond b (some y) (find t xs) ≡ some x → t x ≡ true) (t y)
+      (λ q h. let p : y ≡ x = cc in cc) (λ q h. find-true t xs h) e
 
   pub all-find : (P : A → Type 0) (t : A → Bool) (xs : List A) {x : A} → All P xs → find t xs ≡ some x → P x
   all-find P t [] {x} a e = absurd (Option·none-ne-some x e)
@@ -173,16 +173,16 @@ module _ {A K : Type 0} (T : Table A K) where
   pub apart-append : (xs : List A) (y : A) → Apart xs → look (T .key y) xs ≡ none → Apart (xs ++ (y ∷ []))
   unfolding look
   apart-append [] y a e = (refl, tt)
-  apart-append (x ∷ xs) y a e = on (λ b. cond b (some x) (look (T .key y) xs) ≡ none → T .same (T .key y) (T .key x) ≡ b → Apart (x ∷ (xs ++ (y ∷ [])))) (T .same (T .key y) (T .key x))
-      (λ q h p. absurd (Option·none-ne-some x (sym h)))
-      (λ q h p. (miss-append (T .key x) xs y (a .0) (exact-sym (T .exact) (T .key x) (T .key y) ∙ p), apart-append xs y (a .1) h)) e refl
+  apart-append (x ∷ xs) y a e = on (λ b. cond b (some x) (look (T .key y) xs) ≡ none → Apart (x ∷ (xs ++ (y ∷ [])))) (T .same (T .key y) (T .key x))
+      (λ q h. absurd (Option·none-ne-some x (sym h)))
+      (λ q h. (miss-append (T .key x) xs y (a .0) (exact-sym (T .exact) (T .key x) (T .key y) ∙ q), apart-append xs y (a .1) h)) e
 
   -- ── an entry renewed ──
   pub keys-put : (y : A) (xs : List A) → keys (put y xs) ≡ keys xs
   unfolding put
   keys-put y [] = refl
-  keys-put y (x ∷ xs) = on (λ b. T .same (T .key y) (T .key x) ≡ b → keys (cond b (y ∷ xs) (x ∷ put y xs)) ≡ keys (x ∷ xs)) (T .same (T .key y) (T .key x))
-      (λ _ q. ap (λ k. k ∷ keys xs) (T .exact .only (T .key y) (T .key x) q)) (λ _ q. ap (λ l. T .key x ∷ l) (keys-put y xs)) refl
+  keys-put y (x ∷ xs) = on (λ b. keys (cond b (y ∷ xs) (x ∷ put y xs)) ≡ keys (x ∷ xs)) (T .same (T .key y) (T .key x))
+      (λ q. ap (λ k. k ∷ keys xs) (T .exact .only (T .key y) (T .key x) q)) (λ q. ap (λ l. T .key x ∷ l) (keys-put y xs))
 
   pub keys-steady : (s : Shift A) (xs : List A) → Steady s → keys (shifted s xs) ≡ keys xs
   keys-steady stay xs h = refl
@@ -192,14 +192,14 @@ module _ {A K : Type 0} (T : Table A K) where
   pub look-put : (y : A) (xs : List A) {x : A} → look (T .key y) xs ≡ some x → look (T .key y) (put y xs) ≡ some y
   unfolding look put
   look-put y [] {x} e = absurd (Option·none-ne-some x e)
-  look-put y (a ∷ xs) {x} e = on (λ b. T .same (T .key y) (T .key a) ≡ b → cond b (some a) (look (T .key y) xs) ≡ some x → look (T .key y) (cond b (y ∷ xs) (a ∷ put y xs)) ≡ some y) (T .same (T .key y) (T .key a))
-      (λ _ q h. rw (T .exact .self (T .key y)) refl) (λ _ q h. rw q (look-put y xs h)) refl e
+  look-put y (a ∷ xs) {x} e = on (λ b. cond b (some a) (look (T .key y) xs) ≡ some x → look (T .key y) (cond b (y ∷ xs) (a ∷ put y xs)) ≡ some y) (T .same (T .key y) (T .key a))
+      (λ q h. rw (T .exact .self (T .key y)) refl) (λ q h. rw q (look-put y xs h)) e
 
   pub look-other : (k : K) (y : A) (xs : List A) → T .same k (T .key y) ≡ false → look k (put y xs) ≡ look k xs
   unfolding look put
   look-other k y [] n = refl
-  look-other k y (x ∷ xs) n = on (λ b. T .same (T .key y) (T .key x) ≡ b → look k (cond b (y ∷ xs) (x ∷ put y xs)) ≡ cond (T .same k (T .key x)) (some x) (look k xs)) (T .same (T .key y) (T .key x))
-      (λ _ q. rw (← T .exact .only (T .key y) (T .key x) q, n) refl) (λ _ q. ap (cond (T .same k (T .key x)) (some x)) (look-other k y xs n)) refl
+  look-other k y (x ∷ xs) n = on (λ b. look k (cond b (y ∷ xs) (x ∷ put y xs)) ≡ cond (T .same k (T .key x)) (some x) (look k xs)) (T .same (T .key y) (T .key x))
+      (λ q. rw (← T .exact .only (T .key y) (T .key x) q, n) refl) (λ q. ap (cond (T .same k (T .key x)) (some x)) (look-other k y xs n))
 
   pub put-self : (xs : List A) {x : A} → look (T .key x) xs ≡ some x → put x xs ≡ xs
   unfolding look put
@@ -228,15 +228,15 @@ module _ {A K : Type 0} (T : Table A K) where
   pub all-put-others : (P Q : A → Type 0) (y : A) → ((x : A) → T .same (T .key y) (T .key x) ≡ false → P x → Q x) → (xs : List A) → Apart xs → All P xs → Q y → All Q (put y xs)
   unfolding put
   all-put-others P Q y f [] d a p = tt
-  all-put-others P Q y f (x ∷ xs) d a p = on (λ b. T .same (T .key y) (T .key x) ≡ b → All Q (cond b (y ∷ xs) (x ∷ put y xs))) (T .same (T .key y) (T .key x))
-      (λ _ q. (p, all-zip (λ x. T .same (T .key y) (T .key x) ≡ false) P Q f xs (others (T .key y) xs (rw (T .exact .only (T .key y) (T .key x) q) (d .0))) (a .1)))
-      (λ _ q. (f x q (a .0), all-put-others P Q y f xs (d .1) (a .1) p)) refl
+  all-put-others P Q y f (x ∷ xs) d a p = on (λ b. All Q (cond b (y ∷ xs) (x ∷ put y xs))) (T .same (T .key y) (T .key x))
+      (λ q. (p, all-zip (λ x. T .same (T .key y) (T .key x) ≡ false) P Q f xs (others (T .key y) xs (rw (T .exact .only (T .key y) (T .key x) q) (d .0))) (a .1)))
+      (λ q. (f x q (a .0), all-put-others P Q y f xs (d .1) (a .1) p))
 
   -- where no two entries have one key, a sum that differs at one key differs by one entry
   pub sum-one : (g h : A → ℕ) (k : K) → ((x : A) → T .same k (T .key x) ≡ false → h x ≡ g x) → (xs : List A) {o : A} → Apart xs → look k xs ≡ some o → sum h xs + g o ≡ sum g xs + h o
   unfolding look
   sum-one g h k f [] {o} d e = absurd (Option·none-ne-some o e)
-  sum-one g h k f (x ∷ xs) {o} d e = on (λ b. T .same k (T .key x) ≡ b → cond b (some x) (look k xs) ≡ some o → h x + sum h xs + g o ≡ g x + sum g xs + h o) (T .same k (T .key x))
-      (λ _ q p. let r : x ≡ o = Option·some-injective x o p in
+  sum-one g h k f (x ∷ xs) {o} d e = on (λ b. cond b (some x) (look k xs) ≡ some o → h x + sum h xs + g o ≡ g x + sum g xs + h o) (T .same k (T .key x))
+      (λ q p. let r : x ≡ o = Option·some-injective x o p in
       omega (arith, ap g r, ap h r, sum-same h g xs (all-map (λ x. T .same k (T .key x) ≡ false) (λ x. h x ≡ g x) f xs (others k xs (rw (T .exact .only k (T .key x) q) (d .0))))))
-      (λ _ q p. omega (arith, f x q, sum-one g h k f xs (d .1) p)) refl e
+      (λ q p. omega (arith, f x q, sum-one g h k f xs (d .1) p)) e

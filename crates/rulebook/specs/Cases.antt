@@ -73,11 +73,11 @@ pub record Free (b : Books) (r : Request) (g : Group) : Type 0 where
 pub request-cases : (b : Books) (r : Request) (P : Verdict → Type 0) → ((n : ℕ) → at-door b r ≡ some n → P (reply n)) →
     ((g : Group) → Free b r g → P (remember r (deal-ruling (b .ledger) g (r .key) (r .deal)))) → P (judge-request b r)
 unfolding judge-request Option·elim
-request-cases b r P old fresh = opt (λ d. look by-mpid (r .key .owner .mpid) (b .ledger .groups) ≡ d → P (Option·elim d (reply 5) seek)) (look by-mpid (r .key .owner .mpid) (b .ledger .groups))
-    (λ _ e. old 5 (rw e refl))
-    (λ g _ e. opt (λ a. look by-request (r .key) (b .asked) ≡ a → P (Option·elim a (last g) compare)) (look by-request (r .key) (b .asked))
-    (λ _ q. split P (leb (b .room) (length (b .asked))) _ _ (λ h. old 7 (rw (e, q, h) refl)) (λ h. fresh g (record { desk = e; unknown = q; roomy = leb-false _ _ h })))
-    (λ a _ q. split P (same-request (a .request) r) _ _ (λ h. old (a .number) (rw (e, q, h) refl)) (λ h. old 6 (rw (e, q, h) refl))) refl) refl
+request-cases b r P old fresh = opt (λ d. P (Option·elim d (reply 5) seek)) (look by-mpid (r .key .owner .mpid) (b .ledger .groups))
+    (λ e. old 5 (rw e refl))
+    (λ g e. opt (λ a. P (Option·elim a (last g) compare)) (look by-request (r .key) (b .asked))
+    (λ q. split P (leb (b .room) (length (b .asked))) _ _ (λ h. old 7 (rw (e, q, h) refl)) (λ h. fresh g (record { desk = e; unknown = q; roomy = leb-false _ _ h })))
+    (λ a q. split P (same-request (a .request) r) _ _ (λ h. old (a .number) (rw (e, q, h) refl)) (λ h. old 6 (rw (e, q, h) refl))))
   where
     last : Group → Verdict
     last g = cond (leb (b .room) (length (b .asked))) (reply 7) (remember r (deal-ruling (b .ledger) g (r .key) (r .deal)))

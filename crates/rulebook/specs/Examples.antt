@@ -1,18 +1,19 @@
 -- Document 01's sample day, and the starred cases of "Both sides of a line", computed from the definitions.
 use mathlib.Core.Path.{_≡_, refl}
-use mathlib.Core.Bool.{false, cond, decide}
+use mathlib.Core.Bool.{true, false, not, _&&_, cond, decide}
 use mathlib.Core.Option.{Option, none, some, Option·elim}
 use mathlib.Core.List.{List, [], _∷_, map}
 use native.Mathlib.Decide.{ℕ-discrete}
 use Prim.Native.Nat.{ℕ}
+use native.Mathlib.Omega.{arith}
 use Prim.Native.Char.{Char, code}
 use lib.ListN.{replicate}
 use lib.Dec.{eqb}
 use Rattle.laws.specs.Tests.{exact-discrete}
-use Rattle.laws.specs.Tables.{look, put}
+use Rattle.laws.specs.Tables.{All, look, put}
 use Rattle.laws.specs.Checks.{first, numbers}
 use Rattle.rulebook.specs.Names.{bytes, word, ident-of, mpid-of, Mpid, Key}
-use Rattle.rulebook.specs.Lines.{Side, buy, sell, ceiling, Metrics, Deal, new, change, cancel, block, unblock, Record, open-day, group, symbol, ask, tell, quote, fill, reduction, same-request, Field, letter, number, identifier, mpid, serial, yes-no, Line, line}
+use Rattle.rulebook.specs.Lines.{Side, buy, sell, ceiling, Metrics, Deal, new, change, cancel, block, unblock, Record, open-day, group, symbol, ask, tell, quote, fill, reduction, same-request, Field, letter, number, identifier, mpid, serial, size, yes-no, from-to, Fits, Line, line, Formed}
 use Rattle.rulebook.specs.Kept.{Figures, Order, Group, Symbol, Tally, open-value, worth, limit-checks, fresh-books}
 use Rattle.rulebook.specs.Prices.{bad-price, rows, off-market}
 use Rattle.rulebook.specs.Outcomes.{Answer, answer-line, closing}
@@ -95,6 +96,62 @@ sample-answered = refl
 pub sample-closed : map (closing (run (fresh-books 400) sample)) (0 ∷ 1 ∷ []) ≡ some (line "E" (mpid desk ∷ total 399600000 ∷ total 0 ∷ total 0 ∷ total 0 ∷ yes-no false ∷ [])) ∷ none ∷ []
 unfolding judging sample
 sample-closed = refl
+
+desk-fits : Fits (mpid desk)
+unfolding word
+desk-fits = (bytes "ABCD", refl, omega arith, omega arith, (refl, (refl, (refl, (refl, tt)))))
+
+-- an identifier of two bytes, T and one that the form takes
+name-fits : (c : Char) → (from-to 33 126 (code c) && not (eqb (code c) (code "|"))) ≡ true → Fits (about c)
+name-fits c h = (code "T" ∷ code c ∷ [], refl, omega arith, omega arith, (refl, (h, tt)))
+
+buys-fit : (c : Char) (z : ℕ) → Fits (about c) → Fits (size z) → Formed (asks c (new 7 buy z 10000000))
+buys-fit c z f h = (f, (desk-fits, (omega arith, (refl, (h, omega arith)))))
+
+-- THEOREM. Its records are in their forms, so that what is proved of such records says something
+pub sample-formed : All Formed sample
+unfolding sample
+sample-formed =
+    let t1 = name-fits "1" refl in
+    let n1 = buys-fit "1" 100 t1 (omega arith) in
+    let n2 = buys-fit "2" 101 (name-fits "2" refl) (omega arith) in
+    let f : Formed (tell 2 (fill (name "1") 40 9990000)) = (omega arith, (desk-fits, (t1, omega arith))) in (
+      (desk-fits, (omega arith, (omega arith, (omega arith, (omega arith, (omega arith, (omega arith, (omega arith, (refl, tt))))))))),
+      (
+        omega arith,
+        (
+          tt,
+          (
+            omega arith,
+            (
+              n1,
+              (
+                n1,
+                (
+                  buys-fit "1" 200 t1 (omega arith),
+                  (
+                    n2,
+                    (
+                      f,
+                      (
+                        f,
+                        (
+                          n2,
+                          (
+                            (omega arith, (desk-fits, (t1, omega arith))),
+                            ((name-fits "3" refl, (desk-fits, (t1, tt))), ((omega arith, (desk-fits, (t1, omega arith))), ((name-fits "4" refl, (desk-fits, (t1, omega arith))), tt))),
+                          ),
+                        ),
+                      ),
+                    ),
+                  ),
+                ),
+              ),
+            ),
+          ),
+        ),
+      ),
+    )
 
 -- ── "Readings that look right and are not" ──
 -- a desk that may have 20 dollars open

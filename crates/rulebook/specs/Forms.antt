@@ -28,7 +28,7 @@ answer-fits good bad n s f g h k = (split (λ c. Fits (letter (bytes "PKSRA") (c
 
 -- a number that the table remembers
 kept-small : (n : ℕ) → (eqb n 0 || is-kept n) ≡ true → n ≤ 20
-kept-small n h = on (λ t. eqb n 0 ≡ t → (t || is-kept n) ≡ true → n ≤ 20) (eqb n 0) (λ _ e k. omega (arith, eqb-true n 0 e)) (λ _ e k. number-range n (kept-number n k) .1) refl h
+kept-small n h = on (λ t. (t || is-kept n) ≡ true → n ≤ 20) (eqb n 0) (λ e k. omega (arith, eqb-true n 0 e)) (λ e k. number-range n (kept-number n k) .1) h
 
 -- what the door answers: 5, 6, 7 or such a number
 door-small : (u : Bool) (p : Option Asked) (f : Bool) (r : Request) (n : ℕ) → ((a : Asked) → p ≡ some a → a .number ≤ 20) → door u p f r ≡ some n → n ≤ 20
@@ -76,10 +76,10 @@ answer-formed b x s w = (name-fits x w, (fits .0, omega (arith, fits .1, fits .2
 
 -- THEOREM. and so is every closing line
 pub closing-formed : (b : Books) (i : ℕ) {c : Line} → Sound b → closing b i ≡ some c → All Fits (c .fields)
-closing-formed b i {c} s e = opt (λ o. getElem? (b .ledger .groups) i ≡ o → Option·map (λ g. closing-line g (tally g (b .ledger .orders))) o ≡ some c → All Fits (c .fields)) (getElem? (b .ledger .groups) i)
-    (λ _ q h. absurd (Option·none-ne-some c h))
-    (λ g _ q h.
+closing-formed b i {c} s e = opt (λ o. Option·map (λ g. closing-line g (tally g (b .ledger .orders))) o ≡ some c → All Fits (c .fields)) (getElem? (b .ledger .groups) i)
+    (λ q h. absurd (Option·none-ne-some c h))
+    (λ g q h.
     let m = all-at (λ (g : Group). Formed (group (g .mpid) (g .terms))) (b .ledger .groups) i (s .ledger .groups-fit) q in
     let t = all-at (λ (g : Group). metrics (tally g (b .ledger .orders)) .gross-both ≤ ceiling) (b .ledger .groups) i (s .ledger .gross-within) q in
     subst (λ (c : Line). All Fits (c .fields)) (Option·some-injective (closing-line g (tally g (b .ledger .orders))) c h)
-    (m .0, (omega arith, (omega arith, (omega arith, (omega arith, (split (λ n. Fits (letter (bytes "YN") n)) (g .blocked) (code "Y") (code "N") (λ z. refl) (λ z. refl), tt))))))) refl e
+    (m .0, (omega arith, (omega arith, (omega arith, (omega arith, (split (λ n. Fits (letter (bytes "YN") n)) (g .blocked) (code "Y") (code "N") (λ z. refl) (λ z. refl), tt))))))) e

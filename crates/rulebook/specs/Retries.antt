@@ -161,7 +161,7 @@ early-marks b s (ask r) q = (refl, refl)
 early-marks b s (tell n w) q = (refl, ap (λ t. cond t n (b .last)) (sym off))
   where
     off : (b .opened && eqb n (suc (b .last))) ≡ false
-    off = on (λ t. b .opened ≡ t → (t && eqb n (suc (b .last))) ≡ false) (b .opened) (λ _ h. ne-eqb n (suc (b .last)) (λ e. let f = q h in omega arith)) (λ _ h. refl) refl
+    off = on (λ t. (t && eqb n (suc (b .last))) ≡ false) (b .opened) (λ h. ne-eqb n (suc (b .last)) (λ e. let f = q h in omega arith)) (λ h. refl)
 
 step-marks : (b : Books) (s : List Request) (x : Record) → Agree (noted (marks b s) x) (step b x)
 unfolding apply noted
@@ -211,10 +211,10 @@ strike-log : (m : Marks) (b : Books) → Linked m b → (xs : List Record) → s
 strike-log m b k [] = refl
 strike-log m b k (x ∷ xs) =
     let h = strike-log (noted m x) (step b x) (linked-step m b k x) xs in
-    on (λ t. struck m x ≡ t → cond t (strike (λ (e : Entry). e .line) (noted m x) (log (step b x) xs)) (record { line = x; answer = judge b x .answer } ∷ strike (λ (e : Entry). e .line) (noted m x) (log (step b x) xs)) ≡
+    on (λ t. cond t (strike (λ (e : Entry). e .line) (noted m x) (log (step b x) xs)) (record { line = x; answer = judge b x .answer } ∷ strike (λ (e : Entry). e .line) (noted m x) (log (step b x) xs)) ≡
     log b (cond t (strike (λ x. x) (noted m x) xs) (x ∷ strike (λ x. x) (noted m x) xs))) (struck m x)
-    (λ _ q. h ∙ ap (λ z. log z (strike (λ x. x) (noted m x) xs)) (struck-step m b k x q))
-    (λ _ q. ap (λ l. record { line = x; answer = judge b x .answer } ∷ l) h) refl
+    (λ q. h ∙ ap (λ z. log z (strike (λ x. x) (noted m x) xs)) (struck-step m b k x q))
+    (λ q. ap (λ l. record { line = x; answer = judge b x .answer } ∷ l) h)
 
 -- THEOREM. The records that are left, run alone, leave the same books
 pub same-books : (n : ℕ) (xs : List Record) → run (fresh-books n) xs ≡ run (fresh-books n) (rest xs)
@@ -245,17 +245,17 @@ turns m r open-day e h = absurd (false≢true (sym e ∙ h))
 turns m r (group k t) e h = absurd (false≢true (sym e ∙ h))
 turns m r (symbol k) e h = absurd (false≢true (sym e ∙ h))
 turns m r (tell n w) e h = absurd (false≢true (sym e ∙ h))
-turns m r (ask q) e h = on (λ o. m .opened ≡ o → not (is-none (find (λ q. same-request q r) (cond o (q ∷ m .seen) (m .seen)))) ≡ true → (ask q ≡ ask r) × (m .opened ≡ true)) (m .opened)
-    (λ _ o. on (λ t. same-request q r ≡ t → not (is-none (cond t (some q) (find (λ q. same-request q r) (m .seen)))) ≡ true → (ask q ≡ ask r) × (m .opened ≡ true)) (same-request q r)
-    (λ _ s p. (ap {B = Record} ask (request-exact .only q r s), o)) (λ _ s p. absurd (false≢true (sym e ∙ p))) refl)
-    (λ _ o p. absurd (false≢true (sym e ∙ p))) refl h
+turns m r (ask q) e h = on (λ o. not (is-none (find (λ q. same-request q r) (cond o (q ∷ m .seen) (m .seen)))) ≡ true → (ask q ≡ ask r) × (m .opened ≡ true)) (m .opened)
+    (λ o. on (λ t. not (is-none (cond t (some q) (find (λ q. same-request q r) (m .seen)))) ≡ true → (ask q ≡ ask r) × (m .opened ≡ true)) (same-request q r)
+    (λ s p. (ap {B = Record} ask (request-exact .only q r s), o)) (λ s p. absurd (false≢true (sym e ∙ p))))
+    (λ o p. absurd (false≢true (sym e ∙ p))) h
 
 first-attempt : (r : Request) (m : Marks) (xs : List Record) → struck m (ask r) ≡ false → struck (foldl noted m xs) (ask r) ≡ true → FirstAttempt r m xs
 first-attempt r m [] e h = absurd (false≢true (sym e ∙ h))
-first-attempt r m (x ∷ xs) e h = on (λ t. struck (noted m x) (ask r) ≡ t → FirstAttempt r m (x ∷ xs)) (struck (noted m x) (ask r))
-    (λ _ q. let z = turns m r x e q in record { before = []; between = xs; parts = ap (λ y. y ∷ xs) (z .0); is-open = z .1; is-first = e })
-    (λ _ q. let f = first-attempt r (noted m x) xs q h in
-    record { before = x ∷ f .before; between = f .between; parts = ap (λ l. x ∷ l) (f .parts); is-open = f .is-open; is-first = f .is-first }) refl
+first-attempt r m (x ∷ xs) e h = on (λ t. FirstAttempt r m (x ∷ xs)) (struck (noted m x) (ask r))
+    (λ q. let z = turns m r x e q in record { before = []; between = xs; parts = ap (λ y. y ∷ xs) (z .0); is-open = z .1; is-first = e })
+    (λ q. let f = first-attempt r (noted m x) xs q h in
+    record { before = x ∷ f .before; between = f .between; parts = ap (λ l. x ∷ l) (f .parts); is-open = f .is-open; is-first = f .is-first })
 
 -- THEOREM. What a day strikes changes nothing
 pub struck-unchanged : (n : ℕ) (xs : List Record) (x : Record) → struck (marked xs) x ≡ true → step (run (fresh-books n) xs) x ≡ run (fresh-books n) xs

@@ -36,9 +36,9 @@ total m b gs = total-of b (look by-mpid m gs)
 -- a group's totals rise by v, on one side or not at all
 total-put : (m : Mpid) (b : Bool) (g h : Group) (gs : List Group) (v : ℕ) → look by-mpid (h .mpid) gs ≡ some g → traded-of b h ≡ traded-of b g + v →
     total m b (put by-mpid h gs) ≡ total m b gs + cond (same-mpid m (h .mpid)) v 0
-total-put m b g h gs v e q = on (λ t. same-mpid m (h .mpid) ≡ t → total m b (put by-mpid h gs) ≡ total m b gs + cond t v 0) (same-mpid m (h .mpid))
-    (λ _ s. rw (mpid-exact .only m (h .mpid) s) (omega (arith, ap (total-of b) (look-put by-mpid h gs e), ap (total-of b) e)))
-    (λ _ s. omega (arith, ap (total-of b) (look-other by-mpid m h gs s))) refl
+total-put m b g h gs v e q = on (λ t. total m b (put by-mpid h gs) ≡ total m b gs + cond t v 0) (same-mpid m (h .mpid))
+    (λ s. rw (mpid-exact .only m (h .mpid) s) (omega (arith, ap (total-of b) (look-put by-mpid h gs e), ap (total-of b) e)))
+    (λ s. omega (arith, ap (total-of b) (look-other by-mpid m h gs s)))
 
 zeros : (t : Bool) → _≡_ {A = ℕ} (cond t 0 0) 0
 zeros true = refl
@@ -48,9 +48,9 @@ total-same : (m : Mpid) (b : Bool) (g h : Group) (gs : List Group) → look by-m
 total-same m b g h gs e q = omega (arith, total-put m b g h gs 0 e (omega arith), zeros (same-mpid m (h .mpid)))
 
 total-listed : (m k : Mpid) (b : Bool) (t : Terms) (gs : List Group) → total m b (gs ++ (new-group k t ∷ [])) ≡ total m b gs
-total-listed m k b t gs = opt (λ o. look by-mpid m gs ≡ o → total m b (gs ++ (new-group k t ∷ [])) ≡ total-of b o) (look by-mpid m gs)
-    (λ _ e. ap (total-of b) (look-next by-mpid m gs (new-group k t) e) ∙ split (λ o. total-of b o ≡ 0) (same-mpid m k) (some (new-group k t)) none (λ q. zeros b) (λ q. refl))
-    (λ g _ e. ap (total-of b) (look-append by-mpid m gs (new-group k t) e)) refl
+total-listed m k b t gs = opt (λ o. total m b (gs ++ (new-group k t ∷ [])) ≡ total-of b o) (look by-mpid m gs)
+    (λ e. ap (total-of b) (look-next by-mpid m gs (new-group k t) e) ∙ split (λ o. total-of b o ≡ 0) (same-mpid m k) (some (new-group k t)) none (λ q. zeros b) (λ q. refl))
+    (λ g e. ap (total-of b) (look-append by-mpid m gs (new-group k t) e))
 
 -- ── a record does what its effect says ──
 abbrev ticket-of : Order → Ticket
@@ -203,9 +203,9 @@ key-of t = t .key
 
 tickets-miss : (k : Key) (l : List Asked) → find (same-key k) (keys by-request l) ≡ none → find (same-key k) (map key-of (tickets-in l)) ≡ none
 tickets-miss k [] h = refl
-tickets-miss k (a ∷ l) h = on (λ t. same-key k (a .request .key) ≡ t → cond t (some (a .request .key)) (find (same-key k) (keys by-request l)) ≡ none → find (same-key k) (map key-of (tickets-at a ++ tickets-in l)) ≡ none) (same-key k (a .request .key))
-    (λ _ q e. absurd (Option·none-ne-some (a .request .key) (sym e)))
-    (λ _ q e. let r = tickets-miss k l e in tickets-cases (λ z. find (same-key k) (map key-of (z ++ tickets-in l)) ≡ none) a r (λ t p. rw (p, q) r)) refl h
+tickets-miss k (a ∷ l) h = on (λ t. cond t (some (a .request .key)) (find (same-key k) (keys by-request l)) ≡ none → find (same-key k) (map key-of (tickets-at a ++ tickets-in l)) ≡ none) (same-key k (a .request .key))
+    (λ q e. absurd (Option·none-ne-some (a .request .key) (sym e)))
+    (λ q e. let r = tickets-miss k l e in tickets-cases (λ z. find (same-key k) (map key-of (z ++ tickets-in l)) ≡ none) a r (λ t p. rw (p, q) r)) h
 
 tickets-apart : (l : List Asked) → Apart by-request l → Distinct same-key (map key-of (tickets-in l))
 tickets-apart [] d = tt
@@ -321,5 +321,5 @@ account-run n xs i g e =
 pub closing-account : (n : ℕ) (xs : List Record) (i : ℕ) →
     closing (run (fresh-books n) xs) i ≡ Option·map (λ g. closing-line g (account (g .mpid) (log (fresh-books n) (rest xs)))) (getElem? (run (fresh-books n) xs .ledger .groups) i)
 closing-account n xs i = subst (λ b. closing b i ≡ Option·map (λ g. closing-line g (account (g .mpid) (log (fresh-books n) (rest xs)))) (getElem? (b .ledger .groups) i)) (sym (same-books n xs))
-    (opt (λ o. getElem? (run (fresh-books n) (rest xs) .ledger .groups) i ≡ o → Option·map (λ g. closing-line g (tally g (run (fresh-books n) (rest xs) .ledger .orders))) o ≡ Option·map (λ g. closing-line g (account (g .mpid) (log (fresh-books n) (rest xs)))) o)
-    (getElem? (run (fresh-books n) (rest xs) .ledger .groups) i) (λ _ e. refl) (λ g _ e. ap (λ t. some (closing-line g t)) (account-run n (rest xs) i g e)) refl)
+    (opt (λ o. Option·map (λ g. closing-line g (tally g (run (fresh-books n) (rest xs) .ledger .orders))) o ≡ Option·map (λ g. closing-line g (account (g .mpid) (log (fresh-books n) (rest xs)))) o)
+    (getElem? (run (fresh-books n) (rest xs) .ledger .groups) i) (λ e. refl) (λ g e. ap (λ t. some (closing-line g t)) (account-run n (rest xs) i g e)))
