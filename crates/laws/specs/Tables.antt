@@ -5,7 +5,7 @@ use mathlib.Core.Option.{Option, none, some, Option·map, Option·none-ne-some, 
 use mathlib.Core.List.{List, [], _∷_, _++_, map}
 use Prim.Native.Nat.{ℕ, zero, suc, _+_}
 use native.Mathlib.Omega.{arith}
-use lib.ListN.{getElem?}
+use lib.ListN.{length, length-map, getElem?}
 use Rattle.laws.specs.Tests.{on, opt, is-none, Exact, exact-sym}
 
 module _ {A : Type 0} where
@@ -183,6 +183,9 @@ module _ {A K : Type 0} (T : Table A K) where
   keys-put y [] = refl
   keys-put y (x ∷ xs) = on (λ b. keys (cond b (y ∷ xs) (x ∷ put y xs)) ≡ keys (x ∷ xs)) (T .same (T .key y) (T .key x))
       (λ q. ap (λ k. k ∷ keys xs) (T .exact .only (T .key y) (T .key x) q)) (λ q. ap (λ l. T .key x ∷ l) (keys-put y xs))
+
+  pub length-put : (y : A) (xs : List A) → length (put y xs) ≡ length xs
+  length-put y xs = sym (length-map (put y xs) (T .key)) ∙ ap length (keys-put y xs) ∙ length-map xs (T .key)
 
   pub keys-steady : (s : Shift A) (xs : List A) → Steady s → keys (shifted s xs) ≡ keys xs
   keys-steady stay xs h = refl

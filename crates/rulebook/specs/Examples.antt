@@ -102,8 +102,8 @@ unfolding word
 desk-fits = (bytes "ABCD", refl, omega arith, omega arith, (refl, (refl, (refl, (refl, tt)))))
 
 -- an identifier of two bytes, T and one that the form takes
-name-fits : (c : Char) → (from-to 33 126 (code c) && not (eqb (code c) (code "|"))) ≡ true → Fits (about c)
-name-fits c h = (code "T" ∷ code c ∷ [], refl, omega arith, omega arith, (refl, (h, tt)))
+about-fits : (c : Char) → (from-to 33 126 (code c) && not (eqb (code c) (code "|"))) ≡ true → Fits (about c)
+about-fits c h = (code "T" ∷ code c ∷ [], refl, omega arith, omega arith, (refl, (h, tt)))
 
 buys-fit : (c : Char) (z : ℕ) → Fits (about c) → Fits (size z) → Formed (asks c (new 7 buy z 10000000))
 buys-fit c z f h = (f, (desk-fits, (omega arith, (refl, (h, omega arith)))))
@@ -112,9 +112,9 @@ buys-fit c z f h = (f, (desk-fits, (omega arith, (refl, (h, omega arith)))))
 pub sample-formed : All Formed sample
 unfolding sample
 sample-formed =
-    let t1 = name-fits "1" refl in
+    let t1 = about-fits "1" refl in
     let n1 = buys-fit "1" 100 t1 (omega arith) in
-    let n2 = buys-fit "2" 101 (name-fits "2" refl) (omega arith) in
+    let n2 = buys-fit "2" 101 (about-fits "2" refl) (omega arith) in
     let f : Formed (tell 2 (fill (name "1") 40 9990000)) = (omega arith, (desk-fits, (t1, omega arith))) in (
       (desk-fits, (omega arith, (omega arith, (omega arith, (omega arith, (omega arith, (omega arith, (omega arith, (refl, tt))))))))),
       (
@@ -139,7 +139,7 @@ sample-formed =
                           n2,
                           (
                             (omega arith, (desk-fits, (t1, omega arith))),
-                            ((name-fits "3" refl, (desk-fits, (t1, tt))), ((omega arith, (desk-fits, (t1, omega arith))), ((name-fits "4" refl, (desk-fits, (t1, omega arith))), tt))),
+                            ((about-fits "3" refl, (desk-fits, (t1, tt))), ((omega arith, (desk-fits, (t1, omega arith))), ((about-fits "4" refl, (desk-fits, (t1, omega arith))), tt))),
                           ),
                         ),
                       ),

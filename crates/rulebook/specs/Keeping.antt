@@ -7,17 +7,17 @@ use mathlib.Core.List.{List, [], _∷_, _++_, map-eq-nil-iff}
 use Prim.Native.Nat.{ℕ, _+_, _≤_, _<_}
 use native.Mathlib.Omega.{arith}
 use native.Mathlib.Nat.{mul-le-mul-right}
-use lib.ListN.{length, length-append, length-map}
+use lib.ListN.{length, length-append}
 use lib.Dec.{eqb}
 use Rattle.laws.specs.Tests.{on, is-none, exact-sym}
-use Rattle.laws.specs.Tables.{sum, sum-append, All, Distinct, all-map, all-append, Shift, stay, adds, puts, look, put, shifted, Has, Apart, look-key, look-self, all-look, has-same, has-append, apart-append, keys-put, put-self, sum-put, all-put, all-put-others}
+use Rattle.laws.specs.Tables.{sum, sum-append, All, Distinct, all-map, all-append, Shift, stay, adds, puts, look, put, shifted, Has, Apart, look-key, look-self, all-look, has-same, has-append, apart-append, keys-put, length-put, put-self, sum-put, all-put, all-put-others}
 use Rattle.rulebook.specs.Names.{Mpid, Key, same-mpid, mpid-exact}
 use Rattle.rulebook.specs.Lines.{Terms, ceiling, Deal, News, Record, group, symbol, ask, tell, quote, fill, reduction, cancel-refused, price, Formed, Fits, serial, new, change, cancel, block, unblock, broken, open-day}
 use Rattle.rulebook.specs.Kept.{Figures, Order, Group, Symbol, Asked, Ledger, Books, by-mpid, by-id, by-key, new-group, new-symbol, remaining, with-figures, asking, worked, blocking, open-value, is-of, worth, tally, metrics, fresh-books}
 use Rattle.rulebook.specs.Outcomes.{name-of}
 use Rattle.rulebook.specs.Judging.{Deed, deed, enact, apply, Ruling, hold, named, deal-ruling, news-ruling}
 use Rattle.rulebook.specs.Day.{step, run}
-use Rattle.rulebook.specs.Rules.{is-kept, tickets-in, SoundOrder, SoundLedger, Sound}
+use Rattle.rulebook.specs.Rules.{is-kept, FitsGroup, FitsSymbol, FitsAsked, tickets-in, SoundOrder, SoundLedger, Sound}
 use Rattle.rulebook.specs.Cases.{judge-cases, deal-cases, news-cases}
 use Rattle.rulebook.specs.Retries.{Closed, deal-closed, news-closed, closed-listed}
 use Rattle.rulebook.specs.Sums.{Tidy, tidy-step}
@@ -73,12 +73,12 @@ ledger-moves : (l : Ledger) (g h : Group) (s : Shift Order) → SoundLedger l �
 unfolding enact
 ledger-moves l g h s f e t st w os q =
     let k = keys-put by-mpid h (l .groups) in
-    let fit = all-look by-mpid (λ g. Formed (group (g .mpid) (g .terms))) (h .mpid) (l .groups) (f .groups-fit) e in
+    let fit = all-look by-mpid FitsGroup (h .mpid) (l .groups) (f .groups-fit) e in
     let m : h .mpid ≡ g .mpid = look-key by-mpid (h .mpid) (l .groups) e in
     record {
-      few-groups = omega (arith, f .few-groups, ap length k, length-map (put by-mpid h (l .groups)) (by-mpid .key), length-map (l .groups) (by-mpid .key));
+      few-groups = rw (length-put by-mpid h (l .groups)) (f .few-groups);
       few-symbols = f .few-symbols;
-      groups-fit = all-put by-mpid (λ g. Formed (group (g .mpid) (g .terms))) h (l .groups) (f .groups-fit) (rw (m, t) fit);
+      groups-fit = all-put by-mpid FitsGroup h (l .groups) (f .groups-fit) (rw (m, t) fit);
       symbols-fit = f .symbols-fit;
       orders-sound = os;
       groups-apart = subst (Distinct same-mpid) (sym k) (f .groups-apart);
@@ -93,17 +93,20 @@ ledger-orders : (l : Ledger) (g : Group) (s : Shift Order) → SoundLedger l →
 unfolding enact
 ledger-orders l g s f e st w os q = subst (λ gs. SoundLedger (record { groups = gs; symbols = l .symbols; orders = shifted by-key s (l .orders) })) (put-self by-mpid (l .groups) e) (ledger-moves l g g s f e refl st w os q)
 
-ledger-quote : (l : Ledger) (s : Symbol) → SoundLedger l → Formed (tell 1 (quote (s .id) (s .bid) (s .offer))) → SoundLedger (enact (deed stay stay (puts s)) l)
+-- orders under a list of symbols in which what was listed still is
+relisted : (ss ts : List Symbol) → ((i : ℕ) → Has by-id i ss → Has by-id i ts) → (os : List Order) → All (SoundOrder ss) os → All (SoundOrder ts) os
+relisted ss ts f os a = all-map (SoundOrder ss) (SoundOrder ts) (λ o z. record { size-fits = z .size-fits; price-fits = z .price-fits; listed = f (o .ticket .sym) (z .listed); done-within = z .done-within }) os a
+
+ledger-quote : (l : Ledger) (s : Symbol) → SoundLedger l → FitsSymbol s → SoundLedger (enact (deed stay stay (puts s)) l)
 unfolding enact
 ledger-quote l s f h =
     let k = keys-put by-id s (l .symbols) in
     record {
       few-groups = f .few-groups;
-      few-symbols = omega (arith, f .few-symbols, ap length k, length-map (put by-id s (l .symbols)) (by-id .key), length-map (l .symbols) (by-id .key));
+      few-symbols = rw (length-put by-id s (l .symbols)) (f .few-symbols);
       groups-fit = f .groups-fit;
-      symbols-fit = all-put by-id (λ s. Formed (tell 1 (quote (s .id) (s .bid) (s .offer)))) s (l .symbols) (f .symbols-fit) h;
-      orders-sound = all-map (SoundOrder (l .symbols)) (SoundOrder (put by-id s (l .symbols)))
-          (λ o z. record { size-fits = z .size-fits; price-fits = z .price-fits; listed = has-same by-id (o .ticket .sym) _ _ k ∙ z .listed; done-within = z .done-within }) (l .orders) (f .orders-sound);
+      symbols-fit = all-put by-id FitsSymbol s (l .symbols) (f .symbols-fit) h;
+      orders-sound = relisted _ _ (λ i h. has-same by-id i _ _ k ∙ h) (l .orders) (f .orders-sound);
       groups-apart = f .groups-apart;
       symbols-apart = subst (Distinct eqb) (sym k) (f .symbols-apart);
       gross-within = f .gross-within;
@@ -153,7 +156,7 @@ puts-sound l o f s = all-put by-key (SoundOrder (l .symbols)) o (l .orders) (f .
 group-gross : (l : Ledger) (m : Mpid) {g : Group} → SoundLedger l → look by-mpid m (l .groups) ≡ some g → gross g (l .orders) ≤ ceiling
 group-gross l m f e = all-look by-mpid (λ g. gross g (l .orders) ≤ ceiling) m (l .groups) (f .gross-within) e
 
--- C, D and H: no order's value rises, and h has the totals of its group
+-- C, D and H: no order's value rises, and gross stays within the ceiling
 lowers : (l : Ledger) (k : Key) (g : Group) (o : Order) (f : Figures) → SoundLedger l → look by-mpid (k .owner .mpid) (l .groups) ≡ some g → look by-key k (l .orders) ≡ some o →
     open-value (with-figures o f) ≤ open-value o → gross g (put by-key (with-figures o f) (l .orders)) ≤ ceiling
 lowers l k g o f s d e h = omega (arith, lower-gross g (l .orders) o f (look-self by-key k (l .orders) e) h, group-gross l (k .owner .mpid) s d)
@@ -176,8 +179,8 @@ deal-keeps l g k f e d = deal-cases l g k (λ d u. Formed (ask (record { key = k
     self : look by-mpid (g .mpid) (l .groups) ≡ some g
     self = look-self by-mpid (k .owner .mpid) (l .groups) e
 
-    fits : Formed (group (g .mpid) (g .terms))
-    fits = all-look by-mpid (λ g. Formed (group (g .mpid) (g .terms))) _ (l .groups) (f .groups-fit) e
+    fits : FitsGroup g
+    fits = all-look by-mpid FitsGroup _ (l .groups) (f .groups-fit) e
 
 news-keeps : (l : Ledger) (n : ℕ) → SoundLedger l → (w : News) → Formed (tell n w) → Keeps l (news-ruling l w)
 news-keeps l n f w = news-cases l (λ w u. Formed (tell n w) → Keeps l u) (record {
@@ -253,7 +256,7 @@ unfolding enact
 listed-group l m t f k w e d = record {
   few-groups = omega (arith, length-append (l .groups) (new-group m t ∷ []));
   few-symbols = f .few-symbols;
-  groups-fit = all-append (λ g. Formed (group (g .mpid) (g .terms))) (l .groups) (new-group m t) (f .groups-fit) w;
+  groups-fit = all-append FitsGroup (l .groups) (new-group m t) (f .groups-fit) w;
   symbols-fit = f .symbols-fit;
   orders-sound = f .orders-sound;
   groups-apart = d;
@@ -267,9 +270,8 @@ listed-symbol l i f k w e = record {
   few-groups = f .few-groups;
   few-symbols = omega (arith, length-append (l .symbols) (new-symbol i ∷ []));
   groups-fit = f .groups-fit;
-  symbols-fit = all-append (λ s. Formed (tell 1 (quote (s .id) (s .bid) (s .offer)))) (l .symbols) (new-symbol i) (f .symbols-fit) (omega (arith, w .0));
-  orders-sound = all-map (SoundOrder (l .symbols)) (SoundOrder (l .symbols ++ (new-symbol i ∷ [])))
-      (λ o z. record { size-fits = z .size-fits; price-fits = z .price-fits; listed = has-append by-id (o .ticket .sym) (l .symbols) (new-symbol i) (z .listed); done-within = z .done-within }) (l .orders) (f .orders-sound);
+  symbols-fit = all-append FitsSymbol (l .symbols) (new-symbol i) (f .symbols-fit) (omega (arith, w .0));
+  orders-sound = relisted _ _ (λ k h. has-append by-id k (l .symbols) (new-symbol i) h) (l .orders) (f .orders-sound);
   groups-apart = f .groups-apart;
   symbols-apart = apart-append by-id (l .symbols) (new-symbol i) (f .symbols-apart) e;
   gross-within = f .gross-within;
@@ -325,7 +327,7 @@ step-sound b x s w = judge-cases b (λ x v. Formed x → Tidy (apply (v .edit) b
     last-fits = s .last-fits;
     asked-apart = t .asked-apart;
     orders-asked = t .orders-asked;
-    asked-fit = all-append (λ (a : Asked). Formed (ask (a .request)) × ((eqb (a .number) 0 || is-kept (a .number)) ≡ true)) (b .asked) a (s .asked-fit) (w, deal-kept (b .ledger) g (r .key) (r .deal));
+    asked-fit = all-append FitsAsked (b .asked) a (s .asked-fit) (w, deal-kept (b .ledger) g (r .key) (r .deal));
     asked-listed = desks-listed (u .deed) (b .ledger) (b .asked ++ (a ∷ [])) (deal-closed (b .ledger) g r) (all-append _ (b .asked) a (s .asked-listed) (ap is-none (f .desk)));
     before-open = λ z. absurd (false≢true (sym z ∙ h));
   };

@@ -92,7 +92,7 @@ Fits (letter set c) = is-none (find (eqb c) set) ≡ false
 Fits (number low high n) = (low ≤ n) × (n ≤ high)
 
 abbrev pub from-to : ℕ → ℕ → ℕ → Bool
-from-to low high c = leb low c && leb c high
+from-to low high n = leb low n && leb n high
 
 abbrev pub identifier : Ident → Field
 identifier = text 1 20 (λ c. from-to 33 126 c && not (eqb c (code "|")))

@@ -31,6 +31,6 @@ answer-line x a = record { kind = line-of x .kind; fields = name-of x ∷ letter
 abbrev pub closing-line : Group → Tally → Line
 closing-line g t = line "E" (mpid (g .mpid) ∷ number 0 ceiling (t .tb) ∷ number 0 ceiling (t .ts) ∷ number 0 ceiling (t .ob) ∷ number 0 ceiling (t .os) ∷ yes-no (g .blocked) ∷ [])
 
--- asked for by the group's place in listing order, from 0
+-- asked for by the group's place in listing order, from 0; none where no group has that place (5)
 abbrev pub closing : Books → ℕ → Option Line
 closing b i = Option·map (λ g. closing-line g (tally g (b .ledger .orders))) (getElem? (b .ledger .groups) i)

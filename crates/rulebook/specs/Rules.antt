@@ -1,19 +1,19 @@
 -- Document 01, "Outcomes", "State rules": every rule of that list, of an order, of the ledger and of the books.
 -- "Open values equal to the sums over the table" is a rule of the memory: here they are those sums.
 use mathlib.Core.Path.{_≡_}
-use mathlib.Core.Bool.{Bool, true, false, _&&_, _||_, cond}
+use mathlib.Core.Bool.{Bool, true, false, _||_, cond}
 use mathlib.Core.List.{List, [], _∷_, _++_, map}
 use Prim.Native.Nat.{ℕ, _≤_}
 use lib.ListN.{length}
-use lib.Dec.{leb, eqb}
+use lib.Dec.{eqb}
 use Rattle.laws.specs.Tables.{All, Has, Apart}
-use Rattle.rulebook.specs.Lines.{ceiling, group, ask, tell, quote, size, price, Fits, Formed}
+use Rattle.rulebook.specs.Lines.{ceiling, from-to, group, ask, tell, quote, size, price, Fits, Formed}
 use Rattle.rulebook.specs.Kept.{Ticket, Order, Group, Symbol, Asked, Ledger, Books, by-mpid, by-id, by-request, tally, metrics}
 use Rattle.rulebook.specs.Account.{tickets, deal-effect}
 
 -- the numbers that the table remembers of refusals
 abbrev pub is-kept : ℕ → Bool
-is-kept n = leb 8 n && leb n 17
+is-kept n = from-to 8 17 n
 
 -- the tickets of the table's passed N
 abbrev pub tickets-at : Asked → List Ticket
@@ -22,6 +22,16 @@ tickets-at a = cond (eqb (a .number) 0) (tickets (deal-effect (a .request .key) 
 abbrev pub tickets-in : List Asked → List Ticket
 tickets-in [] = []
 tickets-in (a ∷ l) = tickets-at a ++ tickets-in l
+
+-- every field in range: as a G, a Q or a request in its form would have it
+abbrev pub FitsGroup : Group → Type 0
+FitsGroup g = Formed (group (g .mpid) (g .terms))
+
+abbrev pub FitsSymbol : Symbol → Type 0
+FitsSymbol s = Formed (tell 1 (quote (s .id) (s .bid) (s .offer)))
+
+abbrev pub FitsAsked : Asked → Type 0
+FitsAsked a = Formed (ask (a .request)) × ((eqb (a .number) 0 || is-kept (a .number)) ≡ true)
 
 pub record SoundOrder (ss : List Symbol) (o : Order) : Type 0 where
   -- every field in range
@@ -37,8 +47,8 @@ pub record SoundLedger (l : Ledger) : Type 0 where
   pub few-groups : length (l .groups) ≤ 64
   pub few-symbols : length (l .symbols) ≤ 256
   -- every field in range
-  pub groups-fit : All (λ g. Formed (group (g .mpid) (g .terms))) (l .groups)
-  pub symbols-fit : All (λ s. Formed (tell 1 (quote (s .id) (s .bid) (s .offer)))) (l .symbols)
+  pub groups-fit : All FitsGroup (l .groups)
+  pub symbols-fit : All FitsSymbol (l .symbols)
   pub orders-sound : All (SoundOrder (l .symbols)) (l .orders)
   -- listed MPIDs and symbols distinct
   pub groups-apart : Apart by-mpid (l .groups)
@@ -53,7 +63,7 @@ pub record Sound (b : Books) : Type 0 where
   pub small-room : b .room ≤ 65_535
   -- every field in range
   pub last-fits : b .last ≤ 4_294_967_295
-  pub asked-fit : All (λ a. Formed (ask (a .request)) × ((eqb (a .number) 0 || is-kept (a .number)) ≡ true)) (b .asked)
+  pub asked-fit : All FitsAsked (b .asked)
   -- listed identifier pairs distinct
   pub asked-apart : Apart by-request (b .asked)
   -- every request's MPID listed
