@@ -1,0 +1,42 @@
+-- Writing into a buffer at a place. A byte that has no room changes nothing and sets the place past the end, from where no byte has room.
+use Prim.Native.Nat.{ℕ, _+_}
+use mathlib.Core.Bool.{Bool, true, false, cond, _&&_}
+use mathlib.Core.List.{List, [], _∷_, _++_, foldl}
+use lib.ListN.{length, take, drop, set}
+use lib.Dec.{ltb, leb}
+use Rattle.fields.specs.declared.Written.{Written}
+use Rattle.fields.specs.declared.Written.the-variants.{Bytes, NoRoom}
+
+pub record Out : Type 0 where
+  pub buffer : List ℕ
+  pub at : ℕ
+
+abbrev pub out : List ℕ → ℕ → Out
+out b a = record { buffer = b; at = a }
+
+unfoldable pub put-byte : Out → ℕ → Out
+put-byte s c = cond (ltb (s .at) (length (s .buffer))) (out (set (s .buffer) (s .at) c) (s .at + 1)) (out (s .buffer) (length (s .buffer) + 1))
+
+-- bytes one after the other
+unfoldable pub puts : Out → List ℕ → Out
+puts s cs = foldl put-byte s cs
+
+-- what a writer leaves: the buffer, and what it says
+pub record Left : Type 0 where
+  pub buffer : List ℕ
+  pub said : Written
+
+abbrev pub left : List ℕ → Written → Left
+left b w = record { buffer = b; said = w }
+
+unfoldable pub choose : Bool → Left → Left → Left
+choose true a b = a
+choose false a b = b
+
+-- the first n bytes of a list, put before what stands past them in the buffer; nothing where one of the two is shorter
+unfoldable pub handed : List ℕ → ℕ → List ℕ → Left
+handed d n b = choose (leb n (length d) && leb n (length b)) (left (take n d ++ drop n b) (Bytes n)) (left b NoRoom)
+
+-- a line of at most so many bytes, written whole into the buffer or not at all
+unfoldable pub wrote : ℕ → List ℕ → List ℕ → Left
+wrote most cs b = choose (leb (length cs) most && leb (length cs) (length b)) (left (cs ++ drop (length cs) b) (Bytes (length cs))) (left b NoRoom)

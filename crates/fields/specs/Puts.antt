@@ -1,0 +1,48 @@
+-- What putting bytes leaves: the bytes at their place and all else as it was, or a place past the end.
+use mathlib.Core.Path.{_≡_, refl, sym, ap, _∙_}
+use mathlib.Core.Bool.{true, false, _&&_}
+use mathlib.Core.List.{List, [], _∷_, _++_, foldl, foldl-append, append-assoc}
+use mathlib.Core.Logic.{⊎-elim}
+use Prim.Native.Nat.{ℕ, zero, suc, _+_, _-_, _<_, _≤_}
+use native.Mathlib.Omega.{arith}
+use native.Mathlib.Numerals.{add-one}
+use native.Mathlib.Nat.{add-zero}
+use lib.Dec.{leb}
+use lib.ListN.{length, take, drop, set, take-append-drop, length-set}
+use lib.Seq.{take-suc-set, drop-set-lt, take-append-seam}
+use borrow.Author.Tests.{lt-ltb, le-ltb, lt-leb, le-leb}
+use Rattle.fields.specs.Out.{Out, out, put-byte, puts}
+use Rattle.fields.specs.Numbers.{below}
+
+pub puts-none : (s : Out) → puts s [] ≡ s
+unfolding puts
+puts-none s = refl
+
+pub puts-then : (s : Out) (xs ys : List ℕ) → puts s (xs ++ ys) ≡ puts (puts s xs) ys
+unfolding puts
+puts-then s xs ys = foldl-append put-byte s xs ys
+
+-- where there is room, the bytes stand at their place and all else is as it was
+pub puts-room : (cs d : List ℕ) (a : ℕ) → a + length cs ≤ length d → puts (out d a) cs ≡ out (take a d ++ (cs ++ drop (a + length cs) d)) (a + length cs)
+unfolding put-byte puts
+puts-room [] d a h = rw (add-zero, take-append-drop)
+puts-room (c ∷ cs) d a h =
+    let k : a + 1 + length cs ≡ a + suc (length cs) = omega arith in
+    rw (lt-ltb a (length d) (omega arith))
+    (puts-room cs (set d a c) (a + 1) (rw length-set (omega arith))
+    ∙ rw (k, drop-set-lt (a + suc (length cs)) d a c (omega arith), add-one, take-suc-set d a c (omega arith), append-assoc))
+
+-- where there is none, the place ends past the buffer
+pub puts-past : (cs d : List ℕ) → puts (out d (length d + 1)) cs ≡ out d (length d + 1)
+unfolding put-byte puts
+puts-past [] d = refl
+puts-past (c ∷ cs) d = rw (le-ltb (length d + 1) (length d) (omega arith)) (puts-past cs d)
+
+pub puts-full : (cs d : List ℕ) (a : ℕ) → a ≤ length d → length d < a + length cs → (b : List ℕ) × (puts (out d a) cs ≡ out b (length d + 1)) × (length b ≡ length d)
+unfolding put-byte puts
+puts-full [] d a h k = absurd (omega arith)
+puts-full (c ∷ cs) d a h k =
+    ⊎-elim (λ (b : a < length d). let w = puts-full cs (set d a c) (a + 1) (rw length-set (omega arith)) (rw length-set (omega arith)) in
+    (w .0, rw (lt-ltb a (length d) b) (w .1 ∙ rw length-set), w .2 ∙ rw length-set))
+    (λ (b : length d ≤ a). (d, rw (le-ltb a (length d) b) (puts-past cs d), refl))
+    (below a (length d))
