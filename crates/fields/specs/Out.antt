@@ -40,3 +40,11 @@ handed d n b = choose (leb n (length d) && leb n (length b)) (left (take n d ++ 
 -- a line of at most so many bytes, written whole into the buffer or not at all
 unfoldable pub wrote : ℕ → List ℕ → List ℕ → Left
 wrote most cs b = choose (leb (length cs) most && leb (length cs) (length b)) (left (cs ++ drop (length cs) b) (Bytes (length cs))) (left b NoRoom)
+
+-- a line: the kind's byte, each field after a tab, the LF
+abbrev pub put-fields : Out → List (List ℕ) → Out
+put-fields s [] = s
+put-fields s (f ∷ fs) = put-fields (puts s (9 ∷ f)) fs
+
+abbrev pub put-line : Out → ℕ → List (List ℕ) → Out
+put-line s k fs = puts (put-fields (puts s (k ∷ [])) fs) (10 ∷ [])

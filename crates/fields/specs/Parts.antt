@@ -7,12 +7,24 @@ use lib.ListN.{length, take, drop, getD}
 use lib.Dec.{leb, eqb}
 use Rattle.laws.specs.Tests.{is-none}
 use Rattle.laws.specs.Tables.{find}
-use Rattle.rulebook.specs.Names.{Ident, ident-of, mpid-of}
+use Rattle.rulebook.specs.Names.{Ident, Mpid}
 use Rattle.rulebook.specs.Lines.{Field, text, letter, number, from-to, buy, identifier, mpid, side, yes-no}
 use Rattle.fields.specs.Digits.{number-of}
 use Rattle.fields.specs.declared.Place.{Place}
 use Rattle.fields.specs.declared.Number.{Number}
 use Rattle.fields.specs.declared.Letter.{Letter}
+
+-- a form is a field without its value
+abbrev pub unnamed : Ident
+unnamed = record { head = 0; middle = 0; tail = 0 }
+
+abbrev pub unlisted : Mpid
+unlisted = record { code = 0 }
+
+abbrev pub blank : Field → Field
+blank (text least most t x) = text least most t unnamed
+blank (letter set c) = letter set 0
+blank (number low high n) = number low high 0
 
 -- the stretch of a line from one place to another
 unfoldable pub stretch : List ℕ → ℕ → ℕ → List ℕ
@@ -62,7 +74,7 @@ letter-at t l at = record { value = getD (field-at l at) 0 0; to = end-at t l at
 
 -- the forms of texts and letters, by a number
 unfoldable pub form : ℕ → Field
-form k = cond (eqb k 0) (identifier (ident-of [])) (cond (eqb k 1) (mpid (mpid-of [])) (cond (eqb k 2) (side buy) (yes-no true)))
+form k = cond (eqb k 0) (identifier unnamed) (cond (eqb k 1) (mpid unlisted) (cond (eqb k 2) (blank (side buy)) (blank (yes-no true))))
 
 -- "ended by one LF. At most 160 bytes before the LF"
 unfoldable pub ended : List ℕ → Bool

@@ -14,7 +14,7 @@ use Rattle.laws.specs.Tests.{on, split}
 use Rattle.rulebook.specs.Names.{Ident}
 use Rattle.rulebook.specs.Lines.{ceiling, text, buy, side, yes-no}
 use Rattle.fields.specs.Digits.{empty, number-of}
-use Rattle.fields.specs.Parts.{stretch, ends, span, field-at, takes, has-form, form, ended}
+use Rattle.fields.specs.Parts.{blank, stretch, ends, span, field-at, takes, has-form, form, ended}
 use Rattle.fields.specs.Numbers.{below}
 
 pub in-line : (l : List ℕ) (at : ℕ) → getD l at 0 ≡ 9 → at < length l
@@ -70,7 +70,7 @@ pub letter-form : (k : ℕ) (f : List ℕ) → 2 ≤ k → has-form (form k) f �
 unfolding form has-form
 letter-form k f h =
     rw (ne-eqb k 0 (λ e. omega arith), ne-eqb k 1 (λ e. omega arith))
-    (on (λ b. has-form (cond b (side buy) (yes-no true)) f ≡ (eqb (length f) 1 && takes (cond b (side buy) (yes-no true)) (getD f 0 0))) (eqb k 2) (λ e. refl) (λ e. refl))
+    (on (λ b. has-form (cond b (blank (side buy)) (blank (yes-no true))) f ≡ (eqb (length f) 1 && takes (cond b (blank (side buy)) (blank (yes-no true))) (getD f 0 0))) (eqb k 2) (λ e. refl) (λ e. refl))
 
 -- nothing is no line
 pub none-ended : (l : List ℕ) → length l ≡ 0 → ended l ≡ false

@@ -5,10 +5,9 @@ ghost use mathlib.Core.List.{[], _∷_, _++_};
 ghost use Prim.Native.Nat.{_+_, _-_, _≤_};
 ghost use lib.Dec.{eqb};
 ghost use lib.ListN.{length, take, drop, getD};
-ghost use Rattle.rulebook.specs.Names.{ident-of, mpid-of};
 ghost use Rattle.rulebook.specs.Lines.{ceiling, text, letter, number, buy, identifier, mpid, serial, side, size, price, quoted, limit, yes-no};
 ghost use Rattle.fields.specs.Digits.{digits, digit-step, number-of};
-ghost use Rattle.fields.specs.Parts.{stretch, span, ends, field-at, takes, every, has-form, text-at, number-at, letter-at, form, ended};
+ghost use Rattle.fields.specs.Parts.{unnamed, unlisted, blank, stretch, span, ends, field-at, takes, every, has-form, text-at, number-at, letter-at, form, ended};
 ghost use Rattle.fields.specs.Out.{out, puts, left, handed};
 
 // A stretch of a line. It ends past the line where the field has not its form.
@@ -157,7 +156,7 @@ pub fn part(line: &[u8], place: Place) -> &[u8]
 }
 
 fn identifier_byte(b: u8) -> bool
-    ensures { λ r. ⌜ r ≡ takes (identifier (ident-of [])) b ⌝ }
+    ensures { λ r. ⌜ r ≡ takes (identifier unnamed) b ⌝ }
 {
     if b < 33 {
         return false;
@@ -169,7 +168,7 @@ fn identifier_byte(b: u8) -> bool
 }
 
 fn mpid_byte(b: u8) -> bool
-    ensures { λ r. ⌜ r ≡ takes (mpid (mpid-of [])) b ⌝ }
+    ensures { λ r. ⌜ r ≡ takes (mpid unlisted) b ⌝ }
 {
     if b < b'0' {
         return false;
@@ -184,7 +183,7 @@ fn mpid_byte(b: u8) -> bool
 }
 
 fn side_byte(b: u8) -> bool
-    ensures { λ r. ⌜ r ≡ takes (side buy) b ⌝ }
+    ensures { λ r. ⌜ r ≡ takes (blank (side buy)) b ⌝ }
 {
     if b == b'B' {
         return true;
@@ -202,7 +201,7 @@ fn side_byte(b: u8) -> bool
 }
 
 fn yes_no_byte(b: u8) -> bool
-    ensures { λ r. ⌜ r ≡ takes (yes-no true) b ⌝ }
+    ensures { λ r. ⌜ r ≡ takes (blank (yes-no true)) b ⌝ }
 {
     if b == b'Y' {
         return true;
@@ -244,7 +243,7 @@ fn takes_all(kind: u8, f: &[u8]) -> bool
 }
 
 fn is_text(f: &[u8], kind: u8, least: usize, most: usize) -> bool
-    ensures { λ r. ⌜ r ≡ has-form (text least most (takes (form kind)) (ident-of [])) (now (f .entry)) ⌝ }
+    ensures { λ r. ⌜ r ≡ has-form (text least most (takes (form kind)) unnamed) (now (f .entry)) ⌝ }
 {
     let n = f.len();
     if n < least {
@@ -259,7 +258,7 @@ fn is_text(f: &[u8], kind: u8, least: usize, most: usize) -> bool
 // The text field after a place: where it stands.
 fn text_at(line: &[u8], at: usize, kind: u8, least: usize, most: usize) -> Place
     requires { ⌜ 1 ≤ least ⌝ }
-    ensures { λ r. ⌜ r ≡ text-at (text least most (takes (form kind)) (ident-of [])) (now (line .entry)) at ⌝ }
+    ensures { λ r. ⌜ r ≡ text-at (text least most (takes (form kind)) unnamed) (now (line .entry)) at ⌝ }
 {
     let f = field(line, at);
     if is_text(f, kind, least, most) {
@@ -329,25 +328,25 @@ fn number_at(line: &[u8], at: usize, low: u64, high: u64) -> Number
 
 // An identifier or a target.
 pub fn identifier_at(line: &[u8], at: usize) -> Place
-    ensures { λ r. ⌜ r ≡ text-at (identifier (ident-of [])) (now (line .entry)) at ⌝ }
+    ensures { λ r. ⌜ r ≡ text-at (identifier unnamed) (now (line .entry)) at ⌝ }
 {
     text_at(line, at, IDENTIFIER, 1, 20)
 }
 
 pub fn mpid_at(line: &[u8], at: usize) -> Place
-    ensures { λ r. ⌜ r ≡ text-at (mpid (mpid-of [])) (now (line .entry)) at ⌝ }
+    ensures { λ r. ⌜ r ≡ text-at (mpid unlisted) (now (line .entry)) at ⌝ }
 {
     text_at(line, at, MPID, 4, 4)
 }
 
 pub fn side_at(line: &[u8], at: usize) -> Letter
-    ensures { λ r. ⌜ r ≡ letter-at (side buy) (now (line .entry)) at ⌝ }
+    ensures { λ r. ⌜ r ≡ letter-at (blank (side buy)) (now (line .entry)) at ⌝ }
 {
     letter_at(line, at, SIDE)
 }
 
 pub fn yes_no_at(line: &[u8], at: usize) -> Letter
-    ensures { λ r. ⌜ r ≡ letter-at (yes-no true) (now (line .entry)) at ⌝ }
+    ensures { λ r. ⌜ r ≡ letter-at (blank (yes-no true)) (now (line .entry)) at ⌝ }
 {
     letter_at(line, at, YES_NO)
 }
