@@ -3,7 +3,7 @@ ghost use mathlib.Core.Path.{_≡_};
 ghost use Prim.Native.Nat.{_-_};
 ghost use lib.Dec.{eqb};
 ghost use lib.ListN.{length};
-ghost use Rattle.codec.specs.Readings.{choose, read-as, to-new};
+ghost use Rattle.codec.specs.Readings.{choose, read-as, read-line, reading, to-group, to-symbol, to-open, to-new, to-change, to-cancel, to-block, to-unblock, to-quote, to-fill, to-reduction, to-cancel-refused};
 use fields::Place;
 
 // A line's record: its kind with its own numbers, and where its texts stand in the line.
@@ -91,6 +91,40 @@ fn whole(r: Reading, to: usize, line: &[u8]) -> Reading
     Reading::Broken
 }
 
+fn read_group(line: &[u8]) -> Reading
+    ensures { λ r. ⌜ r ≡ read-as to-group (now (line .entry)) ⌝ }
+{
+    let mpid = fields::mpid_at(line, 1);
+    let gross_trade = fields::limit_at(line, mpid.to);
+    let net_trade = fields::limit_at(line, gross_trade.to);
+    let gross_open = fields::limit_at(line, net_trade.to);
+    let net_open = fields::limit_at(line, gross_open.to);
+    let gross_both = fields::limit_at(line, net_open.to);
+    let net_both = fields::limit_at(line, gross_both.to);
+    let max_size = fields::size_at(line, net_both.to);
+    let short_sales = fields::yes_no_at(line, max_size.to);
+    let r = Reading::Group {
+        mpid,
+        gross_trade: gross_trade.value,
+        net_trade: net_trade.value,
+        gross_open: gross_open.value,
+        net_open: net_open.value,
+        gross_both: gross_both.value,
+        net_both: net_both.value,
+        max_size: max_size.value,
+        short_sales: short_sales.value,
+    };
+    whole(r, short_sales.to, line)
+}
+
+fn read_symbol(line: &[u8]) -> Reading
+    ensures { λ r. ⌜ r ≡ read-as to-symbol (now (line .entry)) ⌝ }
+{
+    let id = fields::serial_at(line, 1);
+    let r = Reading::Symbol { id: id.value };
+    whole(r, id.to, line)
+}
+
 fn read_new(line: &[u8]) -> Reading
     ensures { λ r. ⌜ r ≡ read-as to-new (now (line .entry)) ⌝ }
 {
@@ -109,4 +143,152 @@ fn read_new(line: &[u8]) -> Reading
         price: price.value,
     };
     whole(r, price.to, line)
+}
+
+fn read_change(line: &[u8]) -> Reading
+    ensures { λ r. ⌜ r ≡ read-as to-change (now (line .entry)) ⌝ }
+{
+    let name = fields::identifier_at(line, 1);
+    let mpid = fields::mpid_at(line, name.to);
+    let target = fields::identifier_at(line, mpid.to);
+    let size = fields::size_at(line, target.to);
+    let price = fields::price_at(line, size.to);
+    let r = Reading::Change {
+        name,
+        mpid,
+        target,
+        size: size.value,
+        price: price.value,
+    };
+    whole(r, price.to, line)
+}
+
+fn read_cancel(line: &[u8]) -> Reading
+    ensures { λ r. ⌜ r ≡ read-as to-cancel (now (line .entry)) ⌝ }
+{
+    let name = fields::identifier_at(line, 1);
+    let mpid = fields::mpid_at(line, name.to);
+    let target = fields::identifier_at(line, mpid.to);
+    let r = Reading::Cancel { name, mpid, target };
+    whole(r, target.to, line)
+}
+
+fn read_block(line: &[u8]) -> Reading
+    ensures { λ r. ⌜ r ≡ read-as to-block (now (line .entry)) ⌝ }
+{
+    let name = fields::identifier_at(line, 1);
+    let mpid = fields::mpid_at(line, name.to);
+    let r = Reading::Block { name, mpid };
+    whole(r, mpid.to, line)
+}
+
+fn read_unblock(line: &[u8]) -> Reading
+    ensures { λ r. ⌜ r ≡ read-as to-unblock (now (line .entry)) ⌝ }
+{
+    let name = fields::identifier_at(line, 1);
+    let mpid = fields::mpid_at(line, name.to);
+    let r = Reading::Unblock { name, mpid };
+    whole(r, mpid.to, line)
+}
+
+fn read_quote(line: &[u8]) -> Reading
+    ensures { λ r. ⌜ r ≡ read-as to-quote (now (line .entry)) ⌝ }
+{
+    let number = fields::serial_at(line, 1);
+    let symbol = fields::serial_at(line, number.to);
+    let bid = fields::quoted_at(line, symbol.to);
+    let offer = fields::quoted_at(line, bid.to);
+    let r = Reading::Quote {
+        number: number.value,
+        symbol: symbol.value,
+        bid: bid.value,
+        offer: offer.value,
+    };
+    whole(r, offer.to, line)
+}
+
+fn read_fill(line: &[u8]) -> Reading
+    ensures { λ r. ⌜ r ≡ read-as to-fill (now (line .entry)) ⌝ }
+{
+    let number = fields::serial_at(line, 1);
+    let mpid = fields::mpid_at(line, number.to);
+    let target = fields::identifier_at(line, mpid.to);
+    let size = fields::size_at(line, target.to);
+    let price = fields::price_at(line, size.to);
+    let r = Reading::Fill {
+        number: number.value,
+        mpid,
+        target,
+        size: size.value,
+        price: price.value,
+    };
+    whole(r, price.to, line)
+}
+
+fn read_reduction(line: &[u8]) -> Reading
+    ensures { λ r. ⌜ r ≡ read-as to-reduction (now (line .entry)) ⌝ }
+{
+    let number = fields::serial_at(line, 1);
+    let mpid = fields::mpid_at(line, number.to);
+    let target = fields::identifier_at(line, mpid.to);
+    let size = fields::size_at(line, target.to);
+    let r = Reading::Reduction {
+        number: number.value,
+        mpid,
+        target,
+        size: size.value,
+    };
+    whole(r, size.to, line)
+}
+
+fn read_cancel_refused(line: &[u8]) -> Reading
+    ensures { λ r. ⌜ r ≡ read-as to-cancel-refused (now (line .entry)) ⌝ }
+{
+    let number = fields::serial_at(line, 1);
+    let mpid = fields::mpid_at(line, number.to);
+    let target = fields::identifier_at(line, mpid.to);
+    let r = Reading::CancelRefused {
+        number: number.value,
+        mpid,
+        target,
+    };
+    whole(r, target.to, line)
+}
+
+fn read_open(line: &[u8]) -> Reading
+    ensures { λ r. ⌜ r ≡ read-as to-open (now (line .entry)) ⌝ }
+{
+    whole(Reading::Open, 1, line)
+}
+
+// The record of a line of at most 160 bytes and its LF.
+fn read_line(line: &[u8]) -> Reading
+    ensures { λ r. ⌜ r ≡ read-line (now (line .entry)) ⌝ }
+{
+    let kind = fields::byte_at(line, 0);
+    match kind {
+        b'G' => read_group(line),
+        b'S' => read_symbol(line),
+        b'O' => read_open(line),
+        b'N' => read_new(line),
+        b'M' => read_change(line),
+        b'C' => read_cancel(line),
+        b'B' => read_block(line),
+        b'R' => read_unblock(line),
+        b'Q' => read_quote(line),
+        b'F' => read_fill(line),
+        b'D' => read_reduction(line),
+        b'H' => read_cancel_refused(line),
+        _ => Reading::Broken,
+    }
+}
+
+// The record of a lent line with its LF; Broken where the bytes break a form.
+pub fn read(line: &[u8]) -> Reading
+    ensures { λ r. ⌜ r ≡ reading (now (line .entry)) ⌝ }
+{
+    if fields::is_ended(line) {
+        return read_line(line);
+    }
+    Reading::Broken
 }

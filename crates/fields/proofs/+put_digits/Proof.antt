@@ -113,7 +113,7 @@ put-digits-returns-2 : (t : ℕ) → put-digits-lts.Need-returns-2 (
   put-digits.Post,
 ) (put-digits-at t) put-digits.Post
 unfolding puts
-put-digits-returns-2 t c = 
+put-digits-returns-2 t c =
     let a = c .before .before .before .before .before .before in
     let n = a .before .before .before .before .args .n in
     rw (digits-more n (a .before .before .if1 .left), foldl-append put-byte _ (digits (n / 10)) ((48 + n % 10) ∷ []), ← a .put-digits .ensures) (c .before .before .put2 .ensures)

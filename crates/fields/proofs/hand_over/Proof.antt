@@ -39,7 +39,7 @@ same-length c = search needs
 
 returns-3 : tie.Need-returns-3
 unfolding handed choose
-returns-3 c = 
+returns-3 c =
     let f = now (c .before .before .before .before .before .before .before .before .before .args .from) in
     let n = c .before .before .before .before .before .before .before .before .before .args .n in
     let z : n - 0 ≡ n = omega arith in

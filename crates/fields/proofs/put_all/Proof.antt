@@ -36,7 +36,7 @@ loop-less c = search needs
 
 loop-again : tie.Need-loop-again Inv-loop μ-loop
 unfolding puts
-loop-again c = 
+loop-again c =
     let l = c .before .before .before .before .before .before .loop in
     let f = c .before .before .before .before .before .before .before .before .before .args .f .now in
     let h : l .i < length f = omega arith in

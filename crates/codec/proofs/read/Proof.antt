@@ -1,0 +1,27 @@
+-- `codec::read` meets its contract: the test says which.
+use mathlib.Core.Path.{_≡_, sym, _∙_}
+use Rattle.codec.specs.Readings.{choose, reading}
+use borrow.Author.Needs.{needs}
+use Rattle.codec.proofs.read.Statement.{statement}
+use Rattle.codec.proofs.read.Tie as tie
+use Rattle.codec.proofs.read.Reads as reads
+use Rattle.codec.proofs.read.Lts as lts
+use Rattle.codec.proofs.read_line.Reads as read-line-reads
+use Rattle.fields.proofs.is_ended.Reads as is-ended-reads
+
+is-ended-requires : tie.Need-is-ended-requires
+is-ended-requires c κs = search needs
+
+read-line-requires : tie.Need-read-line-requires
+read-line-requires c κs = search needs
+
+returns : tie.Need-returns
+unfolding choose reading
+returns c = rw (sym (c .before .before .is-ended .ensures) ∙ c .before .if1 .taken) (c .read-line .ensures)
+
+returns-2 : tie.Need-returns-2
+unfolding choose reading
+returns-2 c = rw (sym (c .before .is-ended .ensures) ∙ c .if1 .left)
+
+pub read-spec : {M : Type 1} → statement M
+read-spec = tie.close (tie.spec is-ended-requires read-line-requires returns returns-2)

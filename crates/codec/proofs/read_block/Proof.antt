@@ -1,0 +1,27 @@
+-- `codec::read_block` meets its contract: field after field, as the forms say.
+use Rattle.codec.specs.Readings.{read-as}
+use borrow.Author.Needs.{needs}
+use Rattle.codec.proofs.read_block.Statement.{statement}
+use Rattle.codec.proofs.read_block.Tie as tie
+use Rattle.codec.proofs.read_block.Reads as reads
+use Rattle.codec.proofs.read_block.Lts as lts
+use Rattle.codec.proofs.whole.Reads as whole-reads
+use Rattle.fields.proofs.identifier_at.Reads as identifier-at-reads
+use Rattle.fields.proofs.mpid_at.Reads as mpid-at-reads
+
+identifier-at-requires : tie.Need-identifier-at-requires
+identifier-at-requires c κs = search needs
+
+mpid-at-requires : tie.Need-mpid-at-requires
+mpid-at-requires c κs = search needs
+
+whole-requires : tie.Need-whole-requires
+whole-requires c κs = search needs
+
+returns : tie.Need-returns
+unfolding read-as
+returns c = rw (c .whole .ensures, c .before .mpid-at .ensures, c .before .before .identifier-at .ensures)
+
+pub read-block-spec : {M : Type 1} → statement M
+read-block-spec =
+    tie.close (tie.spec identifier-at-requires mpid-at-requires whole-requires returns)
