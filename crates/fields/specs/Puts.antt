@@ -6,12 +6,13 @@ use mathlib.Core.Logic.{⊎-elim}
 use Prim.Native.Nat.{ℕ, zero, suc, _+_, _-_, _<_, _≤_}
 use native.Mathlib.Omega.{arith}
 use native.Mathlib.Numerals.{add-one}
-use native.Mathlib.Nat.{add-zero}
+use native.Mathlib.Nat.{add-zero, zero-add}
 use lib.Dec.{leb}
-use lib.ListN.{length, take, drop, set, take-append-drop, length-set}
+use lib.ListN.{length, take, drop, set, take-append-drop, length-set, length-append}
 use lib.Seq.{take-suc-set, drop-set-lt, take-append-seam}
 use borrow.Author.Tests.{lt-ltb, le-ltb, lt-leb, le-leb}
-use Rattle.fields.specs.Out.{Out, out, put-byte, puts}
+use Rattle.fields.specs.Series.{tails}
+use Rattle.fields.specs.Out.{Out, out, put-byte, puts, put-fields, put-line, choose, handed, wrote}
 use Rattle.fields.specs.Numbers.{below}
 
 pub puts-none : (s : Out) → puts s [] ≡ s
@@ -46,3 +47,35 @@ puts-full (c ∷ cs) d a h k =
     (w .0, rw (lt-ltb a (length d) b) (w .1 ∙ rw length-set), w .2 ∙ rw length-set))
     (λ (b : length d ≤ a). (d, rw (le-ltb a (length d) b) (puts-past cs d), refl))
     (below a (length d))
+
+-- a line put field by field is the line put whole
+pub put-fields-is : (fs : List (List ℕ)) (s : Out) → puts (put-fields s fs) (10 ∷ []) ≡ puts s (tails fs)
+unfolding tails
+put-fields-is [] s = refl
+put-fields-is (f ∷ fs) s = put-fields-is fs (puts s (9 ∷ f)) ∙ sym (puts-then s (9 ∷ f) (tails fs))
+
+pub put-line-is : (s : Out) (k : ℕ) (fs : List (List ℕ)) → put-line s k fs ≡ puts s (k ∷ tails fs)
+put-line-is s k fs = put-fields-is fs (puts s (k ∷ [])) ∙ sym (puts-then s (k ∷ []) (tails fs))
+
+-- a line that is put into memory of its own and handed over from there is written whole or not at all
+pub staged : (cs z d b : List ℕ) (n : ℕ) → out d n ≡ puts (out z 0) cs → handed d n b ≡ wrote (length z) cs b
+unfolding handed wrote choose
+staged cs z d b n e = ⊎-elim full room (below (length z) (length cs))
+  where
+    full : length z < length cs → handed d n b ≡ wrote (length z) cs b
+    full h =
+        let w = puts-full cs z 0 (omega arith) (omega arith) in
+        let p = e ∙ w .1 in
+        let d-is : length d ≡ length z = ap (λ (o : Out). length (o .buffer)) p ∙ w .2 in
+        let n-is : n ≡ length z + 1 = ap (λ (o : Out). o .at) p in
+        rw (lt-leb n (length d) (omega arith), lt-leb (length cs) (length z) h)
+
+    room : length cs ≤ length z → handed d n b ≡ wrote (length z) cs b
+    room h =
+        let p = rw zero-add at (e ∙ puts-room cs z 0 (omega arith)) in
+        let n-is : n ≡ length cs = ap (λ (o : Out). o .at) p in
+        let d-is : d ≡ cs ++ drop (length cs) z = ap (λ (o : Out). o .buffer) p in
+        rw (n-is, d-is, take-append-seam cs (drop (length cs) z), le-leb (length cs) (length (cs ++ drop (length cs) z)) (rw length-append (omega arith)), le-leb (length cs) (length z) h)
+
+pub staged-line : (k : ℕ) (fs : List (List ℕ)) (z d b : List ℕ) (n : ℕ) → out d n ≡ put-line (out z 0) k fs → handed d n b ≡ wrote (length z) (k ∷ tails fs) b
+staged-line k fs z d b n e = staged (k ∷ tails fs) z d b n (e ∙ put-line-is (out z 0) k fs)

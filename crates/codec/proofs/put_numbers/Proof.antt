@@ -1,0 +1,23 @@
+-- `codec::put_numbers` meets its contract: one after the other.
+use borrow.Author.Needs.{needs}
+use Rattle.codec.proofs.put_numbers.Statement.{statement}
+use Rattle.codec.proofs.put_numbers.Tie as tie
+use Rattle.codec.proofs.put_numbers.Reads as reads
+use Rattle.codec.proofs.put_numbers.Lts as lts
+use Rattle.fields.proofs.put_number.Reads as put-number-reads
+
+put-number-requires : tie.Need-put-number-requires
+put-number-requires c κs = search needs
+
+put-number-requires-2 : tie.Need-put-number-requires-2
+put-number-requires-2 c κs = search needs
+
+same-length : tie.Need-same-length
+same-length c = search needs
+
+returns : tie.Need-returns
+returns c = rw (← c .before .before .before .before .before .before .put-number .ensures) (c .before .before .put-number2 .ensures)
+
+pub put-numbers-spec : {M : Type 1} → statement M
+put-numbers-spec =
+    tie.close (tie.spec put-number-requires put-number-requires-2 same-length returns)
