@@ -1,13 +1,11 @@
 // The day's lines: each read into its record, and records, answers and closing lines written.
 ghost use mathlib.Core.Path.{_≡_};
-ghost use mathlib.Core.List.{[], _∷_};
-ghost use Prim.Native.Nat.{_-_, _%_};
+ghost use Prim.Native.Nat.{_-_};
 ghost use lib.Dec.{eqb};
 ghost use lib.ListN.{length};
-ghost use Rattle.codec.specs.Readings.{said, letter-of, choose, read-as, read-line, reading, to-group, to-symbol, to-open, to-new, to-change, to-cancel, to-block, to-unblock, to-quote, to-fill, to-reduction, to-cancel-refused};
-ghost use Rattle.codec.specs.Writing.{fields-of, record-line, name-bytes, answer-fields, answer-bytes, mpid-bytes, yes-no-letter, closing-kind, closing-fields, closing-bytes};
-ghost use Rattle.fields.specs.Digits.{digits};
-ghost use Rattle.fields.specs.Out.{out, puts, put-fields, put-line, left, wrote};
+ghost use Rattle.codec.specs.Readings.{letter-of, choose, read-as, read-line, reading, to-group, to-symbol, to-open, to-new, to-change, to-cancel, to-block, to-unblock, to-quote, to-fill, to-reduction, to-cancel-refused};
+ghost use Rattle.codec.specs.Writing.{fields-of, record-line};
+ghost use Rattle.fields.specs.Out.{out, put-fields, put-line, left, wrote};
 use fields::Place;
 use fields::Written;
 
@@ -298,7 +296,8 @@ pub fn read(line: &[u8]) -> Reading
     Reading::Broken
 }
 
-fn kind_letter(r: Reading) -> u8
+// The letter of a reading's kind.
+pub fn kind_letter(r: Reading) -> u8
     ensures { λ k. ⌜ k ≡ letter-of r ⌝ }
 {
     match r {
@@ -365,20 +364,6 @@ fn kind_letter(r: Reading) -> u8
     }
 }
 
-fn put_texts(to: &mut [u8], at: usize, line: &[u8], a: Place, b: Place) -> usize
-    ensures { λ r. ⌜ out (now (to .exit)) r ≡ puts (puts (out (now (to .entry)) at) (9 ∷ said (now (line .entry)) a)) (9 ∷ said (now (line .entry)) b) ⌝ }
-{
-    let e = fields::put_text(to, at, line, a);
-    fields::put_text(to, e, line, b)
-}
-
-fn put_numbers(to: &mut [u8], at: usize, m: u64, n: u64) -> usize
-    ensures { λ r. ⌜ out (now (to .exit)) r ≡ puts (puts (out (now (to .entry)) at) (9 ∷ digits m)) (9 ∷ digits n) ⌝ }
-{
-    let e = fields::put_number(to, at, m);
-    fields::put_number(to, e, n)
-}
-
 // A record's fields, each after a tab.
 fn put_fields(to: &mut [u8], at: usize, line: &[u8], rec: Reading) -> usize
     ensures { λ r. ⌜ out (now (to .exit)) r ≡ put-fields (out (now (to .entry)) at) (fields-of (now (line .entry)) rec) ⌝ }
@@ -397,9 +382,9 @@ fn put_fields(to: &mut [u8], at: usize, line: &[u8], rec: Reading) -> usize
             short_sales,
         } => {
             let a = fields::put_text(to, at, line, mpid);
-            let b = put_numbers(to, a, gross_trade, net_trade);
-            let c = put_numbers(to, b, gross_open, net_open);
-            let d = put_numbers(to, c, gross_both, net_both);
+            let b = fields::put_numbers(to, a, gross_trade, net_trade);
+            let c = fields::put_numbers(to, b, gross_open, net_open);
+            let d = fields::put_numbers(to, c, gross_both, net_both);
             let e = fields::put_number(to, d, max_size);
             fields::put_letter(to, e, short_sales)
         }
@@ -413,10 +398,10 @@ fn put_fields(to: &mut [u8], at: usize, line: &[u8], rec: Reading) -> usize
             size,
             price,
         } => {
-            let a = put_texts(to, at, line, name, mpid);
+            let a = fields::put_texts(to, at, line, name, mpid);
             let b = fields::put_number(to, a, symbol);
             let c = fields::put_letter(to, b, side);
-            put_numbers(to, c, size, price)
+            fields::put_numbers(to, c, size, price)
         }
         Reading::Change {
             name,
@@ -425,24 +410,24 @@ fn put_fields(to: &mut [u8], at: usize, line: &[u8], rec: Reading) -> usize
             size,
             price,
         } => {
-            let a = put_texts(to, at, line, name, mpid);
+            let a = fields::put_texts(to, at, line, name, mpid);
             let b = fields::put_text(to, a, line, target);
-            put_numbers(to, b, size, price)
+            fields::put_numbers(to, b, size, price)
         }
         Reading::Cancel { name, mpid, target } => {
-            let a = put_texts(to, at, line, name, mpid);
+            let a = fields::put_texts(to, at, line, name, mpid);
             fields::put_text(to, a, line, target)
         }
-        Reading::Block { name, mpid } => put_texts(to, at, line, name, mpid),
-        Reading::Unblock { name, mpid } => put_texts(to, at, line, name, mpid),
+        Reading::Block { name, mpid } => fields::put_texts(to, at, line, name, mpid),
+        Reading::Unblock { name, mpid } => fields::put_texts(to, at, line, name, mpid),
         Reading::Quote {
             number,
             symbol,
             bid,
             offer,
         } => {
-            let a = put_numbers(to, at, number, symbol);
-            put_numbers(to, a, bid, offer)
+            let a = fields::put_numbers(to, at, number, symbol);
+            fields::put_numbers(to, a, bid, offer)
         }
         Reading::Fill {
             number,
@@ -452,8 +437,8 @@ fn put_fields(to: &mut [u8], at: usize, line: &[u8], rec: Reading) -> usize
             price,
         } => {
             let a = fields::put_number(to, at, number);
-            let b = put_texts(to, a, line, mpid, target);
-            put_numbers(to, b, size, price)
+            let b = fields::put_texts(to, a, line, mpid, target);
+            fields::put_numbers(to, b, size, price)
         }
         Reading::Reduction {
             number,
@@ -462,7 +447,7 @@ fn put_fields(to: &mut [u8], at: usize, line: &[u8], rec: Reading) -> usize
             size,
         } => {
             let a = fields::put_number(to, at, number);
-            let b = put_texts(to, a, line, mpid, target);
+            let b = fields::put_texts(to, a, line, mpid, target);
             fields::put_number(to, b, size)
         }
         Reading::CancelRefused {
@@ -471,76 +456,8 @@ fn put_fields(to: &mut [u8], at: usize, line: &[u8], rec: Reading) -> usize
             target,
         } => {
             let a = fields::put_number(to, at, number);
-            put_texts(to, a, line, mpid, target)
+            fields::put_texts(to, a, line, mpid, target)
         }
-    }
-}
-
-// The field by which an answer names the record, after a tab.
-fn put_name(to: &mut [u8], at: usize, line: &[u8], rec: Reading) -> usize
-    ensures { λ r. ⌜ out (now (to .exit)) r ≡ puts (out (now (to .entry)) at) (9 ∷ name-bytes (now (line .entry)) rec) ⌝ }
-{
-    match rec {
-        Reading::Broken => fields::put_letter(to, at, b'-'),
-        Reading::Group {
-            mpid,
-            gross_trade: _,
-            net_trade: _,
-            gross_open: _,
-            net_open: _,
-            gross_both: _,
-            net_both: _,
-            max_size: _,
-            short_sales: _,
-        } => fields::put_text(to, at, line, mpid),
-        Reading::Symbol { id } => fields::put_number(to, at, id),
-        Reading::Open => fields::put_letter(to, at, b'-'),
-        Reading::New {
-            name,
-            mpid: _,
-            symbol: _,
-            side: _,
-            size: _,
-            price: _,
-        } => fields::put_text(to, at, line, name),
-        Reading::Change {
-            name,
-            mpid: _,
-            target: _,
-            size: _,
-            price: _,
-        } => fields::put_text(to, at, line, name),
-        Reading::Cancel {
-            name,
-            mpid: _,
-            target: _,
-        } => fields::put_text(to, at, line, name),
-        Reading::Block { name, mpid: _ } => fields::put_text(to, at, line, name),
-        Reading::Unblock { name, mpid: _ } => fields::put_text(to, at, line, name),
-        Reading::Quote {
-            number,
-            symbol: _,
-            bid: _,
-            offer: _,
-        } => fields::put_number(to, at, number),
-        Reading::Fill {
-            number,
-            mpid: _,
-            target: _,
-            size: _,
-            price: _,
-        } => fields::put_number(to, at, number),
-        Reading::Reduction {
-            number,
-            mpid: _,
-            target: _,
-            size: _,
-        } => fields::put_number(to, at, number),
-        Reading::CancelRefused {
-            number,
-            mpid: _,
-            target: _,
-        } => fields::put_number(to, at, number),
     }
 }
 
@@ -552,98 +469,11 @@ fn put_record(to: &mut [u8], line: &[u8], rec: Reading) -> usize
     fields::put(to, b, 10)
 }
 
-fn put_answer(
-    to: &mut [u8],
-    line: &[u8],
-    rec: Reading,
-    outcome: u8,
-    number: u64,
-    sent: u64,
-) -> usize
-    ensures { λ r. ⌜ out (now (to .exit)) r ≡ put-line (out (now (to .entry)) 0) (letter-of rec) (answer-fields (now (line .entry)) rec outcome number sent) ⌝ }
-{
-    let a = fields::put(to, 0, kind_letter(rec));
-    let b = put_name(to, a, line, rec);
-    let c = fields::put_letter(to, b, outcome);
-    let d = put_numbers(to, c, number, sent);
-    fields::put(to, d, 10)
-}
-
-// The lowest byte of a number.
-fn low_byte(w: u64) -> u8
-    ensures { λ r. ⌜ r ≡ w % 256 ⌝ }
-{
-    (w % 256) as u8
-}
-
-// A tab and an MPID's four bytes from its word, the first byte lowest.
-fn put_mpid(to: &mut [u8], at: usize, w: u64) -> usize
-    ensures { λ r. ⌜ out (now (to .exit)) r ≡ puts (out (now (to .entry)) at) (9 ∷ mpid-bytes w) ⌝ }
-{
-    let a = fields::put_letter(to, at, low_byte(w));
-    let b = fields::put(to, a, low_byte(w / 256));
-    let c = fields::put(to, b, low_byte(w / 65536));
-    fields::put(to, c, low_byte(w / 16777216))
-}
-
-fn yes_or_no(x: bool) -> u8
-    ensures { λ r. ⌜ r ≡ yes-no-letter x ⌝ }
-{
-    if x {
-        return b'Y';
-    }
-    b'N'
-}
-
-fn put_closing(to: &mut [u8], mpid: u64, tb: u64, ts: u64, ob: u64, os: u64, blocked: bool) -> usize
-    ensures { λ r. ⌜ out (now (to .exit)) r ≡ put-line (out (now (to .entry)) 0) closing-kind (closing-fields mpid tb ts ob os blocked) ⌝ }
-{
-    let a = fields::put(to, 0, b'E');
-    let b = put_mpid(to, a, mpid);
-    let c = put_numbers(to, b, tb, ts);
-    let d = put_numbers(to, c, ob, os);
-    let e = fields::put_letter(to, d, yes_or_no(blocked));
-    fields::put(to, e, 10)
-}
-
 // Writes a record's line, from its reading and the line that its texts stand in.
 pub fn write_record(line: &[u8], rec: Reading, to: &mut [u8]) -> Written
     ensures { λ r. ⌜ left (now (to .exit)) r ≡ wrote 161 (record-line (now (line .entry)) rec) (now (to .entry)) ⌝ }
 {
     let mut whole_line = [0u8; 161];
     let n = put_record(&mut whole_line, line, rec);
-    fields::hand_over(&whole_line, n, to)
-}
-
-// Writes the answer line of a record.
-pub fn write_answer(
-    line: &[u8],
-    rec: Reading,
-    outcome: u8,
-    number: u64,
-    sent: u64,
-    to: &mut [u8],
-) -> Written
-    ensures { λ r. ⌜ left (now (to .exit)) r ≡ wrote 32 (answer-bytes (now (line .entry)) rec outcome number sent) (now (to .entry)) ⌝ }
-{
-    let mut whole_line = [0u8; 32];
-    let n = put_answer(&mut whole_line, line, rec, outcome, number, sent);
-    fields::hand_over(&whole_line, n, to)
-}
-
-// Writes a group's closing line, its MPID being given as a word.
-pub fn write_closing(
-    mpid: u64,
-    tb: u64,
-    ts: u64,
-    ob: u64,
-    os: u64,
-    blocked: bool,
-    to: &mut [u8],
-) -> Written
-    ensures { λ r. ⌜ left (now (to .exit)) r ≡ wrote 96 (closing-bytes mpid tb ts ob os blocked) (now (to .entry)) ⌝ }
-{
-    let mut whole_line = [0u8; 96];
-    let n = put_closing(&mut whole_line, mpid, tb, ts, ob, os, blocked);
     fields::hand_over(&whole_line, n, to)
 }

@@ -454,6 +454,22 @@ pub fn put_letter(to: &mut [u8], at: usize, b: u8) -> usize
     put(to, e, b)
 }
 
+// Two stretches of the line, each after a tab.
+pub fn put_texts(to: &mut [u8], at: usize, line: &[u8], a: Place, b: Place) -> usize
+    ensures { λ r. ⌜ out (now (to .exit)) r ≡ puts (puts (out (now (to .entry)) at) (9 ∷ stretch (now (line .entry)) (a .from) (a .to))) (9 ∷ stretch (now (line .entry)) (b .from) (b .to)) ⌝ }
+{
+    let e = put_text(to, at, line, a);
+    put_text(to, e, line, b)
+}
+
+// Two numbers, each after a tab.
+pub fn put_numbers(to: &mut [u8], at: usize, m: u64, n: u64) -> usize
+    ensures { λ r. ⌜ out (now (to .exit)) r ≡ puts (puts (out (now (to .entry)) at) (9 ∷ digits m)) (9 ∷ digits n) ⌝ }
+{
+    let e = put_number(to, at, m);
+    put_number(to, e, n)
+}
+
 // Hands over the first n bytes whole, or none of them.
 pub fn hand_over(from: &[u8], n: usize, to: &mut [u8]) -> Written
     ensures { λ r. ⌜ left (now (to .exit)) r ≡ handed (now (from .entry)) n (now (to .entry)) ⌝ }

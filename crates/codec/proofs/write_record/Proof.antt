@@ -1,8 +1,8 @@
 -- `codec::write_record` meets its contract: the line is put into memory of its own, and handed over from there.
 use mathlib.Core.Path.{_≡_, _∙_}
 use lib.ListN.{replicate}
-use Rattle.fields.specs.Puts.{staged-line}
 use denote.Ref.{now}
+use Rattle.fields.specs.Puts.{staged-line}
 use Rattle.codec.specs.Readings.{letter-of}
 use Rattle.codec.specs.Writing.{fields-of}
 use borrow.Author.Needs.{needs}

@@ -1,9 +1,9 @@
--- `codec::put_name` meets its contract: each arm is given its reading.
+-- `answers::put_name` meets its contract: each arm is given its reading.
 use borrow.Author.Needs.{needs}
-use Rattle.codec.proofs.put_name.Statement.{statement}
-use Rattle.codec.proofs.put_name.Tie as tie
-use Rattle.codec.proofs.put_name.Reads as reads
-use Rattle.codec.proofs.put_name.Lts as lts
+use Rattle.answers.proofs.put_name.Statement.{statement}
+use Rattle.answers.proofs.put_name.Tie as tie
+use Rattle.answers.proofs.put_name.Reads as reads
+use Rattle.answers.proofs.put_name.Lts as lts
 use Rattle.fields.proofs.put_letter.Reads as put-letter-reads
 use Rattle.fields.proofs.put_number.Reads as put-number-reads
 use Rattle.fields.proofs.put_text.Reads as put-text-reads

@@ -1,11 +1,11 @@
--- `codec::put_mpid` meets its contract: one byte after the other.
+-- `answers::put_mpid` meets its contract: one byte after the other.
 use Rattle.fields.specs.Out.{puts}
 use borrow.Author.Needs.{needs}
-use Rattle.codec.proofs.put_mpid.Statement.{statement}
-use Rattle.codec.proofs.put_mpid.Tie as tie
-use Rattle.codec.proofs.put_mpid.Reads as reads
-use Rattle.codec.proofs.put_mpid.Lts as lts
-use Rattle.codec.proofs.low_byte.Reads as low-byte-reads
+use Rattle.answers.proofs.put_mpid.Statement.{statement}
+use Rattle.answers.proofs.put_mpid.Tie as tie
+use Rattle.answers.proofs.put_mpid.Reads as reads
+use Rattle.answers.proofs.put_mpid.Lts as lts
+use Rattle.answers.proofs.low_byte.Reads as low-byte-reads
 use Rattle.fields.proofs.put.Reads as put-reads
 use Rattle.fields.proofs.put_letter.Reads as put-letter-reads
 
