@@ -63,6 +63,13 @@ module _ {A : Type 0} where
   sum-append f [] ys = omega arith
   sum-append f (x ∷ xs) ys = omega (arith, sum-append f xs ys)
 
+-- two lists, entry by entry
+abbrev pub Each : {A B : Type 0} → (A → B → Type 0) → List A → List B → Type 0
+Each R [] [] = Unit {0}
+Each R [] (y ∷ ys) = ⊥
+Each R (x ∷ xs) [] = ⊥
+Each R (x ∷ xs) (y ∷ ys) = R x y × Each R xs ys
+
 pub find-map : {A B : Type 0} (f : A → B) (t : B → Bool) (xs : List A) → find t (map f xs) ≡ Option·map f (find (λ x. t (f x)) xs)
 find-map f t [] = refl
 find-map f t (x ∷ xs) = on (λ b. cond b (some (f x)) (find t (map f xs)) ≡ Option·map f (cond b (some x) (find (λ x. t (f x)) xs))) (t (f x)) (λ q. refl) (λ q. find-map f t xs)
