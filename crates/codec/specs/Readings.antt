@@ -1,5 +1,5 @@
 -- Document 01, "A record is a kind with its own numbers": what a reading says, with the line beside it, and the reading of a line.
-use mathlib.Core.Bool.{Bool, true, false, cond}
+use mathlib.Core.Bool.{Bool, true, false}
 use mathlib.Core.Option.{Option, none, some}
 use mathlib.Core.List.{List, [], _∷_, map}
 use Prim.Native.Nat.{ℕ, zero, suc, _-_}
@@ -8,9 +8,9 @@ use lib.Dec.{eqb}
 use lib.ListN.{length, getD}
 use Rattle.laws.specs.Tables.{find}
 use Rattle.rulebook.specs.Names.{ident-of, mpid-of, Key}
-use Rattle.rulebook.specs.Lines.{Side, buy, sell, short, exempt, new, change, cancel, block, unblock, quote, fill, reduction, cancel-refused, Record, broken, open-day, group, symbol, ask, tell, Field, Line, line-of}
+use Rattle.rulebook.specs.Lines.{new, change, cancel, block, unblock, quote, fill, reduction, cancel-refused, Record, broken, open-day, group, symbol, ask, tell, Field, Line, line-of}
 use Rattle.fields.specs.Parts.{blank, stretch, ended}
-use Rattle.fields.specs.Series.{Value, values, end-of, all-bytes}
+use Rattle.fields.specs.Series.{Value, side-of, values, end-of}
 use Rattle.fields.specs.declared.Place.{Place}
 use Rattle.codec.specs.declared.Reading.{Reading}
 use Rattle.codec.specs.declared.Reading.the-variants.{Broken, Group, Symbol, Open, New, Change, Cancel, Block, Unblock, Quote, Fill, Reduction, CancelRefused}
@@ -21,9 +21,6 @@ said l p = stretch l (p .from) (p .to)
 
 abbrev pub key-of : List ℕ → Place → Place → Key
 key-of l m i = record { owner = record { mpid = mpid-of (said l m) }; name = ident-of (said l i) }
-
-abbrev pub side-of : ℕ → Side
-side-of c = cond (eqb c (code "B")) buy (cond (eqb c (code "S")) sell (cond (eqb c (code "H")) short exempt))
 
 -- the record that a reading says
 abbrev pub record-of : List ℕ → Reading → Record

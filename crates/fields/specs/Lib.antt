@@ -11,3 +11,4 @@ pub mod Puts
 pub mod Packing
 pub mod Trips
 pub mod Widths
+pub mod Values

@@ -1,10 +1,11 @@
 -- Document 01, "The day's lines": the fields after a kind, by the list of their forms. Read from a place on, and written each after a tab.
 use Prim.Native.Nat.{ℕ, _+_, _-_}
-use mathlib.Core.Bool.{Bool, true, false, _&&_}
+use Prim.Native.Char.{code}
+use mathlib.Core.Bool.{Bool, true, false, cond, _&&_}
 use mathlib.Core.List.{List, [], _∷_, _++_}
 use lib.ListN.{getD}
 use lib.Dec.{eqb}
-use Rattle.rulebook.specs.Lines.{Field, text, letter, number, from-to}
+use Rattle.rulebook.specs.Lines.{Side, buy, sell, short, exempt, Field, text, letter, number, from-to}
 use Rattle.fields.specs.Digits.{digits, number-of}
 use Rattle.fields.specs.Parts.{stretch, field-at, takes, has-form, end-at, text-at}
 use Rattle.fields.specs.declared.Place.{Place}
@@ -13,6 +14,10 @@ use Rattle.fields.specs.declared.Place.{Place}
 pub record Value : Type 0 where
   pub place : Place
   pub value : ℕ
+
+-- the side that a letter says
+abbrev pub side-of : ℕ → Side
+side-of c = cond (eqb c (code "B")) buy (cond (eqb c (code "S")) sell (cond (eqb c (code "H")) short exempt))
 
 abbrev pub value-of : Field → List ℕ → ℕ
 value-of (text least most t x) f = 0
@@ -43,10 +48,3 @@ all-bytes (t ∷ ts) l (v ∷ vs) = bytes-of t l v ∷ all-bytes ts l vs
 unfoldable pub tails : List (List ℕ) → List ℕ
 tails [] = 10 ∷ []
 tails (f ∷ fs) = 9 ∷ (f ++ tails fs)
-
--- each field has its form, and there are as many fields as forms
-abbrev pub have-forms : List Field → List (List ℕ) → Bool
-have-forms [] [] = true
-have-forms [] (f ∷ fs) = false
-have-forms (t ∷ ts) [] = false
-have-forms (t ∷ ts) (f ∷ fs) = has-form t f && have-forms ts fs

@@ -7,12 +7,12 @@ use Prim.Native.Nat.{ℕ, zero, suc, _+_, _-_, _<_, _≤_}
 use native.Mathlib.Omega.{arith}
 use native.Mathlib.Numerals.{add-one}
 use lib.ListN.{length, take, drop, getD, length-append, length-drop, drop-of-length-le, List·getD-eq-default}
-use lib.Seq.{drop-cons, drop-append-add, getD-append-seam, take-append-seam}
+use lib.Seq.{drop-cons, drop-append-add, getD-append-seam, take-append-seam, take-all}
 use lib.Dec.{leb, eqb}
 use borrow.Author.Tests.{lt-leb, le-leb, leb-true, eq-eqb, ne-eqb, eqb-true}
 use Rattle.laws.specs.Tests.{on, is-none, some-of}
 use Rattle.laws.specs.Tables.{find, All, Each}
-use Rattle.rulebook.specs.Names.{Ident, ident-of}
+use Rattle.rulebook.specs.Names.{word, Ident, ident-of}
 use Rattle.rulebook.specs.Lines.{ceiling, Field, text, letter, number, from-to}
 use Rattle.fields.specs.Digits.{digits, digit-step, number-of, empty}
 use Rattle.fields.specs.Parts.{blank, stretch, ends, span, field-at, takes, every, has-form, end-at, text-at}
@@ -116,27 +116,36 @@ end-not : (t : Field) (l : List ℕ) (at : ℕ) → has-form t (field-at l at) �
 unfolding end-at
 end-not t l at ok = rw ok
 
--- fields that end before the last byte have their forms, and lie one after the other from the first tab to the last byte
+-- a value that its form takes
+abbrev pub Fit : List ℕ → Field → Value → Type 0
+Fit l (text least most t x) v = has-form (text least most t x) (stretch l (v .place .from) (v .place .to)) ≡ true
+Fit l (letter set c) v = takes (letter set c) (v .value) ≡ true
+Fit l (number low high n) v = (low ≤ v .value) × (v .value ≤ high)
+
+value-fits : (t : Field) (l : List ℕ) (at : ℕ) → good t ≡ true → has-form t (field-at l at) ≡ true → Fit l t (value-at t l at)
+unfolding end-at
+value-fits (text least most t x) l at g ok = rw (bytes-part (text least most t x) l at g ok) ok
+value-fits (letter set c) l at g ok = letter-has set c (field-at l at) ok .1
+value-fits (number low high n) l at g ok = number-has low high n (field-at l at) ok
+
+-- fields that end before the last byte have their forms, and lie one after the other up to it
 pub back : (ts : List Field) (l : List ℕ) (at : ℕ) → goods ts ≡ true → length l - end-of ts l at ≡ 1 → getD l (length l - 1) 0 ≡ 10
-    → (tails (all-bytes ts l (values ts l at)) ≡ drop at l) × Each (λ t f. has-form t f ≡ true) ts (all-bytes ts l (values ts l at))
+    → (tails (all-bytes ts l (values ts l at)) ≡ drop at l) × Each (Fit l) ts (values ts l at)
 unfolding tails
 back [] l at g h z =
     let k : length l - 1 ≡ at = omega arith in
     (rw (drop-cons l at 0 (omega arith), rw k at z, drop-of-length-le l {i = suc at} (omega arith)), tt)
 back (t ∷ ts) l at g h z = on (λ b. has-form t (field-at l at) ≡ b → Goal) (has-form t (field-at l at)) (λ e. yes-form (back ts l (end-at t l at) (goods-parts t ts g .1) h z)) (λ e. no-form) refl
   where
-    Rest : Type 0
-    Rest = (tails (all-bytes ts l (values ts l (end-at t l at))) ≡ drop (end-at t l at) l) × Each (λ t f. has-form t f ≡ true) ts (all-bytes ts l (values ts l (end-at t l at)))
-
     Goal : Type 0
     Goal = (9 ∷ (bytes-of t l (value-at t l at) ++ tails (all-bytes ts l (values ts l (end-at t l at)))) ≡ drop at l)
-        × ((has-form t (bytes-of t l (value-at t l at)) ≡ true) × Each (λ t f. has-form t f ≡ true) ts (all-bytes ts l (values ts l (end-at t l at))))
+        × (Fit l t (value-at t l at) × Each (Fit l) ts (values ts l (end-at t l at)))
 
-    yes-form : Rest → has-form t (field-at l at) ≡ true → Goal
+    yes-form : (tails (all-bytes ts l (values ts l (end-at t l at))) ≡ drop (end-at t l at) l) × Each (Fit l) ts (values ts l (end-at t l at)) → has-form t (field-at l at) ≡ true → Goal
     yes-form rest ok =
         let x = tab-of t l at (goods-parts t ts g .0) ok in
         let p = bytes-part t l at (goods-parts t ts g .0) ok in
-        (rw (p, rest .0, end-has t l at ok) (sym (seam l at x)), (rw p ok, rest .1))
+        (rw (p, rest .0, end-has t l at ok) (sym (seam l at x)), (value-fits t l at (goods-parts t ts g .0) ok, rest .1))
 
     no-form : has-form t (field-at l at) ≡ false → Goal
     no-form ok =
@@ -199,7 +208,7 @@ field-written pre f fs l h q =
 
 -- a value as a field has it
 abbrev pub Holds : List ℕ → Field → Value → Type 0
-Holds l (text least most t x) v = Says (text least most t x) (stretch l (v .place .from) (v .place .to))
+Holds l (text least most t x) v = (ident-of (stretch l (v .place .from) (v .place .to)) ≡ x) × (most ≤ 8 → word (stretch l (v .place .from) (v .place .to)) ≡ x .head)
 Holds l (letter set c) v = v .value ≡ c
 Holds l (number low high n) v = v .value ≡ n
 
@@ -217,7 +226,7 @@ says-has (number low high n) f g s = let h = high-of low high n g in rw (s .0, n
 
 value-holds : (t : Field) (l : List ℕ) (at : ℕ) → good t ≡ true → Says t (field-at l at) → has-form (blank t) (field-at l at) ≡ true → getD l at 0 ≡ 9 → Holds l t (value-at (blank t) l at)
 unfolding end-at
-value-holds (text least most t x) l at g s ok y = rw ok (rw (field-stretch l at y) s)
+value-holds (text least most t x) l at g s ok y = rw (ok, field-stretch l at y) (s .0, λ h. ap word (sym (take-all 8 (field-at l at) (omega (arith, s .2)))) ∙ ap (λ (i : Ident). i .head) (s .0))
 value-holds (letter set c) l at g s ok y = rw (s .0)
 value-holds (number low high n) l at g s ok y = rw (s .0) (number-digits n (omega (arith, s .2, high-of low high n g)))
 
@@ -242,3 +251,9 @@ forth (y ∷ ys) (f ∷ fs) pre l g s q =
     let e : end-at (blank y) l (length pre) ≡ length (pre ++ (9 ∷ f)) = end-has (blank y) l (length pre) okp ∙ rw (w, length-append) (omega arith) in
     let ih = forth ys fs (pre ++ (9 ∷ f)) l (gs .1) (s .1) (q ∙ sym (append-assoc pre (9 ∷ f) (tails fs))) in
     (subst (λ n. length l - end-of (map blank ys) l n ≡ 1) (sym e) (ih .0), (value-holds y l (length pre) (gs .0) (rw w (s .0)) okp (tab-of (blank y) l (length pre) gb okp), subst (λ n. Each (Holds l) ys (values (map blank ys) l n)) (sym e) (ih .1)))
+
+-- the last byte of a line that is written is its LF
+pub last-byte : (fs : List (List ℕ)) (pre : List ℕ) → getD (pre ++ tails fs) (length (pre ++ tails fs) - 1) 0 ≡ 10
+unfolding tails
+last-byte [] pre = let k : length (pre ++ (10 ∷ [])) - 1 ≡ length pre = rw length-append (omega arith) in rw k (getD-append-seam pre 10 [] 0)
+last-byte (f ∷ fs) pre = rw (← append-assoc pre (9 ∷ f) (tails fs)) (last-byte fs (pre ++ (9 ∷ f)))
