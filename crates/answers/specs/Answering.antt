@@ -1,5 +1,5 @@
 -- Document 01, "A whole day": the bytes of an answer line and of a closing line.
-use Prim.Native.Nat.{ℕ, _/_, _%_}
+use Prim.Native.Nat.{ℕ, zero, suc, _/_, _%_}
 use Prim.Native.Char.{code}
 use mathlib.Core.Bool.{Bool, cond}
 use mathlib.Core.List.{List, [], _∷_}
@@ -36,9 +36,10 @@ answer-fields l r outcome n sent = name-bytes l r ∷ (outcome ∷ []) ∷ digit
 abbrev pub answer-bytes : List ℕ → Reading → ℕ → ℕ → ℕ → List ℕ
 answer-bytes l r outcome n sent = letter-of r ∷ tails (answer-fields l r outcome n sent)
 
--- an MPID's four bytes from its word, the first byte lowest
-abbrev pub mpid-bytes : ℕ → List ℕ
-mpid-bytes w = w % 256 ∷ w / 256 % 256 ∷ w / 65536 % 256 ∷ w / 16777216 % 256 ∷ []
+-- the lowest bytes of a word, the first lowest: an MPID is four of them
+abbrev pub low-bytes : ℕ → ℕ → List ℕ
+low-bytes zero w = []
+low-bytes (suc n) w = w % 256 ∷ low-bytes n (w / 256)
 
 abbrev pub yes-no-letter : Bool → ℕ
 yes-no-letter x = cond x (code "Y") (code "N")
@@ -48,7 +49,7 @@ closing-kind = code "E"
 
 -- "E, MPID, TB, TS, OB, OS, Y or N for blocked"
 abbrev pub closing-fields : ℕ → ℕ → ℕ → ℕ → ℕ → Bool → List (List ℕ)
-closing-fields w tb ts ob os blocked = mpid-bytes w ∷ digits tb ∷ digits ts ∷ digits ob ∷ digits os ∷ (yes-no-letter blocked ∷ []) ∷ []
+closing-fields w tb ts ob os blocked = low-bytes 4 w ∷ digits tb ∷ digits ts ∷ digits ob ∷ digits os ∷ (yes-no-letter blocked ∷ []) ∷ []
 
 abbrev pub closing-bytes : ℕ → ℕ → ℕ → ℕ → ℕ → Bool → List ℕ
 closing-bytes w tb ts ob os blocked = closing-kind ∷ tails (closing-fields w tb ts ob os blocked)

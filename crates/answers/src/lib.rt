@@ -4,7 +4,7 @@ ghost use mathlib.Core.List.{[], _∷_};
 ghost use Prim.Native.Nat.{_%_};
 ghost use Rattle.fields.specs.Out.{out, puts, put-line, left, wrote};
 ghost use Rattle.codec.specs.Readings.{letter-of};
-ghost use Rattle.answers.specs.Answering.{name-bytes, answer-fields, answer-bytes, mpid-bytes, yes-no-letter, closing-kind, closing-fields, closing-bytes};
+ghost use Rattle.answers.specs.Answering.{name-bytes, answer-fields, answer-bytes, low-bytes, yes-no-letter, closing-kind, closing-fields, closing-bytes};
 use codec::Reading;
 use fields::Written;
 
@@ -102,12 +102,14 @@ fn low_byte(w: u64) -> u8
 
 // A tab and an MPID's four bytes from its word, the first byte lowest.
 fn put_mpid(to: &mut [u8], at: usize, w: u64) -> usize
-    ensures { λ r. ⌜ out (now (to .exit)) r ≡ puts (out (now (to .entry)) at) (9 ∷ mpid-bytes w) ⌝ }
+    ensures { λ r. ⌜ out (now (to .exit)) r ≡ puts (out (now (to .entry)) at) (9 ∷ low-bytes 4 w) ⌝ }
 {
+    let second = w / 256;
+    let third = second / 256;
     let a = fields::put_letter(to, at, low_byte(w));
-    let b = fields::put(to, a, low_byte(w / 256));
-    let c = fields::put(to, b, low_byte(w / 65536));
-    fields::put(to, c, low_byte(w / 16777216))
+    let b = fields::put(to, a, low_byte(second));
+    let c = fields::put(to, b, low_byte(third));
+    fields::put(to, c, low_byte(third / 256))
 }
 
 fn yes_or_no(x: bool) -> u8

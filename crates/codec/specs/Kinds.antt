@@ -1,6 +1,7 @@
 -- Kind by kind, all that the theorems on lines need of it: its forms are the rulebook's, its values say its record, its record's fields give its values.
 use mathlib.Core.Path.{_≡_, refl, sym, ap, _∙_}
 use mathlib.Core.Bool.{Bool, true, false}
+use mathlib.Core.Logic.{_⊎_, inl, inr}
 use mathlib.Core.Option.{some}
 use mathlib.Core.List.{List, [], _∷_, map}
 use Prim.Native.Nat.{ℕ, _+_, _≤_}
@@ -15,7 +16,7 @@ use Rattle.fields.specs.Series.{Value, values, all-bytes}
 use Rattle.fields.specs.Forms.{Says}
 use Rattle.fields.specs.Trips.{goods, Fit, Holds}
 use Rattle.fields.specs.Widths.{widths}
-use Rattle.fields.specs.Values.{says-identifier, says-mpid, says-side, says-yes-no, side-told, yes-no-told}
+use Rattle.fields.specs.Values.{Packs, identifier-solid, mpid-solid, says-identifier, says-mpid, says-side, says-yes-no, side-told, yes-no-told}
 use Rattle.codec.specs.Readings.{said, record-of, Maker, to-group, to-symbol, to-open, to-new, to-change, to-cancel, to-block, to-unblock, to-quote, to-fill, to-reduction, to-cancel-refused, makers, letter-of, forms-of}
 use Rattle.codec.specs.Writing.{fields-of}
 
@@ -32,6 +33,7 @@ Told make = (l : List ℕ) → Each (Fit l) (forms-of (make [])) (read-values ma
 
 pub record Kind (make : Maker) : Type 0 where
   pub good : goods (forms-of (make [])) ≡ true
+  pub named : eqb (letter-of (make [])) (line-of broken .kind) ≡ false
   pub letter : (l : List ℕ) (vs : List Value) → line-of (record-of l (make vs)) .kind ≡ letter-of (make [])
   pub same : (l : List ℕ) → fields-of l (make (read-values make l)) ≡ all-bytes (forms-of (make [])) l (read-values make l)
   pub told : Told make
@@ -74,18 +76,18 @@ told-cancel-refused l (n, (m, (t, u))) = (plain n, (says-mpid _ m, (says-identif
 
 pub kinds : All Kind makers
 kinds =
-    (record { good = refl; letter = λ l vs. refl; same = λ l. refl; told = told-group },
-    (record { good = refl; letter = λ l vs. refl; same = λ l. refl; told = told-symbol },
-    (record { good = refl; letter = λ l vs. refl; same = λ l. refl; told = told-open },
-    (record { good = refl; letter = λ l vs. refl; same = λ l. refl; told = told-new },
-    (record { good = refl; letter = λ l vs. refl; same = λ l. refl; told = told-change },
-    (record { good = refl; letter = λ l vs. refl; same = λ l. refl; told = told-cancel },
-    (record { good = refl; letter = λ l vs. refl; same = λ l. refl; told = told-block },
-    (record { good = refl; letter = λ l vs. refl; same = λ l. refl; told = told-unblock },
-    (record { good = refl; letter = λ l vs. refl; same = λ l. refl; told = told-quote },
-    (record { good = refl; letter = λ l vs. refl; same = λ l. refl; told = told-fill },
-    (record { good = refl; letter = λ l vs. refl; same = λ l. refl; told = told-reduction },
-    (record { good = refl; letter = λ l vs. refl; same = λ l. refl; told = told-cancel-refused },
+    (record { good = refl; named = refl; letter = λ l vs. refl; same = λ l. refl; told = told-group },
+    (record { good = refl; named = refl; letter = λ l vs. refl; same = λ l. refl; told = told-symbol },
+    (record { good = refl; named = refl; letter = λ l vs. refl; same = λ l. refl; told = told-open },
+    (record { good = refl; named = refl; letter = λ l vs. refl; same = λ l. refl; told = told-new },
+    (record { good = refl; named = refl; letter = λ l vs. refl; same = λ l. refl; told = told-change },
+    (record { good = refl; named = refl; letter = λ l vs. refl; same = λ l. refl; told = told-cancel },
+    (record { good = refl; named = refl; letter = λ l vs. refl; same = λ l. refl; told = told-block },
+    (record { good = refl; named = refl; letter = λ l vs. refl; same = λ l. refl; told = told-unblock },
+    (record { good = refl; named = refl; letter = λ l vs. refl; same = λ l. refl; told = told-quote },
+    (record { good = refl; named = refl; letter = λ l vs. refl; same = λ l. refl; told = told-fill },
+    (record { good = refl; named = refl; letter = λ l vs. refl; same = λ l. refl; told = told-reduction },
+    (record { good = refl; named = refl; letter = λ l vs. refl; same = λ l. refl; told = told-cancel-refused },
     tt))))))))))))
 
 -- ── from a record to its line ──
@@ -100,6 +102,7 @@ pub record Home (x : Record) : Type 0 where
   pub good : goods (line-of x .fields) ≡ true
   pub width : 1 + widths (line-of x .fields) ≤ 161
   pub rebuilt : Rebuilt x make
+  pub solid : All Packs (line-of x .fields)
 
 rebuilt-group : (g : Mpid) (t : Terms) → Rebuilt (group g t) to-group
 rebuilt-group g t l (m, (a, (b, (c, (d, (e, (f, (z, (x, u))))))))) = λ j. group (record { code = m .1 (omega arith) j }) (record { limits = record { gross-trade = a j; net-trade = b j; gross-open = c j; net-open = d j; gross-both = e j; net-both = f j }; max-size = z j; short-sales = yes-no-told (t .short-sales) _ x j })
@@ -139,24 +142,24 @@ rebuilt-cancel-refused nr k l (n, (m, (t, u))) = λ j. tell (n j) (cancel-refuse
 
 home-ask : (k : Key) (d : Deal) → Home (ask (record { key = k; deal = d }))
 unfolding digits digits-in
-home-ask k (new sy si sz pr) = record { make = to-new; found = refl; forms = refl; good = refl; width = omega arith; rebuilt = rebuilt-new k sy si sz pr }
-home-ask k (change ta sz pr) = record { make = to-change; found = refl; forms = refl; good = refl; width = omega arith; rebuilt = rebuilt-change k ta sz pr }
-home-ask k (cancel ta) = record { make = to-cancel; found = refl; forms = refl; good = refl; width = omega arith; rebuilt = rebuilt-cancel k ta }
-home-ask k block = record { make = to-block; found = refl; forms = refl; good = refl; width = omega arith; rebuilt = rebuilt-block k }
-home-ask k unblock = record { make = to-unblock; found = refl; forms = refl; good = refl; width = omega arith; rebuilt = rebuilt-unblock k }
+home-ask k (new sy si sz pr) = record { make = to-new; found = refl; forms = refl; good = refl; width = omega arith; rebuilt = rebuilt-new k sy si sz pr; solid = (identifier-solid, (mpid-solid, (tt, (tt, (tt, (tt, tt)))))) }
+home-ask k (change ta sz pr) = record { make = to-change; found = refl; forms = refl; good = refl; width = omega arith; rebuilt = rebuilt-change k ta sz pr; solid = (identifier-solid, (mpid-solid, (identifier-solid, (tt, (tt, tt))))) }
+home-ask k (cancel ta) = record { make = to-cancel; found = refl; forms = refl; good = refl; width = omega arith; rebuilt = rebuilt-cancel k ta; solid = (identifier-solid, (mpid-solid, (identifier-solid, tt))) }
+home-ask k block = record { make = to-block; found = refl; forms = refl; good = refl; width = omega arith; rebuilt = rebuilt-block k; solid = (identifier-solid, (mpid-solid, tt)) }
+home-ask k unblock = record { make = to-unblock; found = refl; forms = refl; good = refl; width = omega arith; rebuilt = rebuilt-unblock k; solid = (identifier-solid, (mpid-solid, tt)) }
 
 home-tell : (nr : ℕ) (w : News) → Home (tell nr w)
 unfolding digits digits-in
-home-tell nr (quote sy bi of) = record { make = to-quote; found = refl; forms = refl; good = refl; width = omega arith; rebuilt = rebuilt-quote nr sy bi of }
-home-tell nr (fill k sz pr) = record { make = to-fill; found = refl; forms = refl; good = refl; width = omega arith; rebuilt = rebuilt-fill nr k sz pr }
-home-tell nr (reduction k sz) = record { make = to-reduction; found = refl; forms = refl; good = refl; width = omega arith; rebuilt = rebuilt-reduction nr k sz }
-home-tell nr (cancel-refused k) = record { make = to-cancel-refused; found = refl; forms = refl; good = refl; width = omega arith; rebuilt = rebuilt-cancel-refused nr k }
+home-tell nr (quote sy bi of) = record { make = to-quote; found = refl; forms = refl; good = refl; width = omega arith; rebuilt = rebuilt-quote nr sy bi of; solid = (tt, (tt, (tt, (tt, tt)))) }
+home-tell nr (fill k sz pr) = record { make = to-fill; found = refl; forms = refl; good = refl; width = omega arith; rebuilt = rebuilt-fill nr k sz pr; solid = (tt, (mpid-solid, (identifier-solid, (tt, (tt, tt))))) }
+home-tell nr (reduction k sz) = record { make = to-reduction; found = refl; forms = refl; good = refl; width = omega arith; rebuilt = rebuilt-reduction nr k sz; solid = (tt, (mpid-solid, (identifier-solid, (tt, tt)))) }
+home-tell nr (cancel-refused k) = record { make = to-cancel-refused; found = refl; forms = refl; good = refl; width = omega arith; rebuilt = rebuilt-cancel-refused nr k; solid = (tt, (mpid-solid, (identifier-solid, tt))) }
 
-pub home : (x : Record) → (x ≡ broken → ⊥) → Home x
+pub home : (x : Record) → (x ≡ broken) ⊎ Home x
 unfolding digits digits-in
-home broken h = absurd (h refl)
-home (group g t) h = record { make = to-group; found = refl; forms = refl; good = refl; width = omega arith; rebuilt = rebuilt-group g t }
-home (symbol id) h = record { make = to-symbol; found = refl; forms = refl; good = refl; width = omega arith; rebuilt = rebuilt-symbol id }
-home open-day h = record { make = to-open; found = refl; forms = refl; good = refl; width = omega arith; rebuilt = rebuilt-open  }
-home (ask r) h = home-ask (r .key) (r .deal)
-home (tell nr w) h = home-tell nr w
+home broken = inl refl
+home (group g t) = inr (record { make = to-group; found = refl; forms = refl; good = refl; width = omega arith; rebuilt = rebuilt-group g t; solid = (mpid-solid, (tt, (tt, (tt, (tt, (tt, (tt, (tt, (tt, tt))))))))) })
+home (symbol id) = inr (record { make = to-symbol; found = refl; forms = refl; good = refl; width = omega arith; rebuilt = rebuilt-symbol id; solid = (tt, tt) })
+home open-day = inr (record { make = to-open; found = refl; forms = refl; good = refl; width = omega arith; rebuilt = rebuilt-open ; solid = tt })
+home (ask r) = inr (home-ask (r .key) (r .deal))
+home (tell nr w) = inr (home-tell nr w)

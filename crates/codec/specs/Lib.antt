@@ -3,3 +3,4 @@ pub mod Readings
 pub mod Writing
 -- and their theorems
 pub mod Kinds
+pub mod Lines
