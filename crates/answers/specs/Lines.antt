@@ -1,29 +1,29 @@
 -- What is written as an answer line or a closing line is the rulebook's line, and fits into 32 and 96 bytes.
 use mathlib.Core.Path.{_≡_, refl, sym, ap, _∙_, subst}
 use mathlib.Core.Bool.{Bool, true, false, cond, _&&_}
+use mathlib.Core.Option.{some, Option·map}
 use mathlib.Core.List.{List, [], _∷_, _++_}
 use Prim.Native.Nat.{ℕ, zero, suc, _+_, _*_, _/_, _%_, _≤_}
 use Prim.Native.Char.{code}
 use native.Mathlib.Omega.{arith}
-use lib.Dec.{leb}
-use lib.ListN.{length, take, drop}
+use lib.ListN.{length, take, drop, getElem?}
 use lib.Seq.{take-all}
-use borrow.Author.Tests.{le-leb}
 use Rattle.laws.specs.Tables.{All, all-map, Each}
 use Rattle.rulebook.specs.Names.{word, Ident, ident-of, Mpid}
 use Rattle.rulebook.specs.Lines.{Fits, Record, broken, open-day, group, symbol, ask, tell, Line, line-of, mpid}
-use Rattle.rulebook.specs.Kept.{Group as Listed, Tally}
+use Rattle.rulebook.specs.Kept.{Group as Listed, Books, Tally, tally}
 use Rattle.rulebook.specs.Outcomes.{Answer, name-of, answer-line, closing-line}
+use Rattle.rulebook.specs.Judging.{judge}
+use Rattle.rulebook.specs.Rules.{Sound}
+use Rattle.rulebook.specs.Forms.{answer-formed, closing-formed}
 use Rattle.fields.specs.Digits.{digits, digits-in}
 use Rattle.fields.specs.Series.{bytes-of, tails}
 use Rattle.fields.specs.Forms.{Says, IsLine}
-use Rattle.fields.specs.Out.{left, choose, wrote}
 use Rattle.fields.specs.Widths.{widths, line-width}
 use Rattle.fields.specs.Values.{Packs, mpid-solid}
 use Rattle.fields.specs.Packing.{Solid}
-use Rattle.fields.specs.declared.Written.the-variants.{Bytes}
-use Rattle.codec.specs.Readings.{record-of, letter-of}
-use Rattle.codec.specs.Lines.{InForm, letter-same}
+use Rattle.codec.specs.Readings.{record-of, letter-of, reading}
+use Rattle.codec.specs.Lines.{InForm, letter-same, read-formed, read-in-form}
 use Rattle.codec.specs.declared.Reading.{Reading}
 use Rattle.codec.specs.declared.Reading.the-variants.{Broken, Group, Symbol, Open, New, Change, Cancel, Block, Unblock, Quote, Fill, Reduction, CancelRefused}
 use Rattle.answers.specs.Answering.{name-value, name-bytes, answer-fields, answer-bytes, low-bytes, closing-fields, closing-bytes}
@@ -99,8 +99,19 @@ closing-width g t = omega arith
 pub closing-short : (g : Listed) (t : Tally) → All Fits (closing-line g t .fields) → length (closing-bytes (g .mpid .code) (t .tb) (t .ts) (t .ob) (t .os) (g .blocked)) ≤ 96
 closing-short g t f = omega (arith, line-width (closing-line g t) _ (closed g t f), closing-width g t)
 
--- ── room ──
--- THEOREM. So a buffer of that length always has room: the line stands at its start, and what is past the line stays
-pub roomy : (most : ℕ) (cs b : List ℕ) → length cs ≤ most → most ≤ length b → wrote most cs b ≡ left (cs ++ drop (length cs) b) (Bytes (length cs))
-unfolding wrote choose
-roomy most cs b h k = rw (le-leb (length cs) most h, le-leb (length cs) (length b) (omega arith))
+-- ── what the gate writes ──
+-- THEOREM. Over books that meet the state rules, every line's answer is the rulebook's answer line, and has at most 32 bytes
+pub gate-answer : (b : Books) (l : List ℕ) → Sound b → let x = record-of l (reading l) in let a = judge b x .answer in let cs = answer-bytes l (reading l) (code (a .outcome)) (a .number) (a .sent) in
+    IsLine (answer-line x a) cs × (length cs ≤ 32)
+gate-answer b l s =
+    let x = record-of l (reading l) in
+    let f = answer-formed b x s (read-formed l) in
+    (answered l (reading l) (judge b x .answer) (read-in-form l) f, answer-short l (reading l) (judge b x .answer) (read-in-form l) f)
+
+-- THEOREM. And so is every group's closing line, with at most 96
+pub gate-closing : (b : Books) (i : ℕ) (g : Listed) → Sound b → getElem? (b .ledger .groups) i ≡ some g → let t = tally g (b .ledger .orders) in let cs = closing-bytes (g .mpid .code) (t .tb) (t .ts) (t .ob) (t .os) (g .blocked) in
+    IsLine (closing-line g t) cs × (length cs ≤ 96)
+gate-closing b i g s e =
+    let t = tally g (b .ledger .orders) in
+    let f : All Fits (closing-line g t .fields) = closing-formed b i s (ap (Option·map (λ (g : Listed). closing-line g (tally g (b .ledger .orders)))) e) in
+    (closed g t f, closing-short g t f)

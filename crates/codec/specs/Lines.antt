@@ -19,7 +19,7 @@ use Rattle.fields.specs.Forms.{Says, IsLine}
 use Rattle.fields.specs.Trips.{Holds, both, back, forth, last-byte}
 use Rattle.fields.specs.Values.{Packs, each-same, each-fits, fits-each}
 use Rattle.fields.specs.Widths.{line-width}
-use Rattle.codec.specs.Readings.{record-of, Maker, makers, letter-of, forms-of, choose, read-as, read-by, read-line, reading}
+use Rattle.codec.specs.Readings.{record-of, Maker, makers, letter-of, forms-of, form-number, choose, read-as, read-by, read-line, reading}
 use Rattle.codec.specs.Writing.{fields-of, record-line}
 use Rattle.codec.specs.Kinds.{read-values, Kind, kinds, Home, home}
 use Rattle.codec.specs.declared.Reading.{Reading}
@@ -63,10 +63,13 @@ pub same-line : (l : List ℕ) → (reading l ≡ Broken → ⊥) → record-lin
 same-line l = read-cases l (λ r. (r ≡ Broken → ⊥) → record-line l r ≡ l) (λ h. absurd (h refl)) (λ make k h. written l make k)
 
 -- THEOREM. What is read is the line of the record that it is read as
-pub read-line-of : (l : List ℕ) → (reading l ≡ Broken → ⊥) → IsLine (line-of (record-of l (reading l))) l
-read-line-of l = read-cases l (λ r. (r ≡ Broken → ⊥) → IsLine (line-of (record-of l r)) l) (λ h. absurd (h refl)) λ make k h.
+taken-line : (l : List ℕ) (make : Maker) → Taken l make → IsLine (line-of (record-of l (make (read-values make l)))) l
+taken-line l make k =
     let b = back (forms-of (make [])) l 1 (k .kind .good) (k .end) (k .last) in
     (fields-of l (make (read-values make l)), rw (k .kind .letter l (read-values make l), ← k .kind .letter [] (read-values make l)) (sym (written l make k)), k .kind .told l (b .1))
+
+pub read-line-of : (l : List ℕ) → (reading l ≡ Broken → ⊥) → IsLine (line-of (record-of l (reading l))) l
+read-line-of l = read-cases l (λ r. (r ≡ Broken → ⊥) → IsLine (line-of (record-of l r)) l) (λ h. absurd (h refl)) (λ make k h. taken-line l make k)
 
 -- ── from a record to its line ──
 line-of-broken : (l : List ℕ) → IsLine (line-of broken) l → reading l ≡ Broken
@@ -92,15 +95,24 @@ pub reads : (x : Record) (l : List ℕ) → IsLine (line-of x) l → record-of l
 reads x l i = ⊎-elim (λ (e : x ≡ broken). rw (line-of-broken l (rw e at i)) (sym e)) (λ (h : Home x). home-read x h l i) (home x)
 
 -- only a broken reading says a broken record
-pub read-broken : (l : List ℕ) → record-of l (reading l) ≡ broken → reading l ≡ Broken
-read-broken l = read-cases l (λ r. record-of l r ≡ broken → r ≡ Broken) (λ e. refl) λ make k e.
-    absurd (false≢true (sym (k .kind .named) ∙ eq-eqb _ _ (sym (k .kind .letter l (read-values make l)) ∙ ap (λ (x : Record). line-of x .kind) e)))
+taken-whole : (l : List ℕ) (make : Maker) → Taken l make → record-of l (make (read-values make l)) ≡ broken → ⊥
+taken-whole l make k e = false≢true (sym (k .kind .named) ∙ eq-eqb _ _ (sym (k .kind .letter l (read-values make l)) ∙ ap (λ (x : Record). line-of x .kind) e))
 
 -- THEOREM. Bytes are taken exactly where they are the line of a record
-pub exactly : (l : List ℕ) → (reading l ≡ Broken → ⊥) ↔ ((x : Record) × (x ≡ broken → ⊥) × IsLine (line-of x) l)
+abbrev pub Lines : List ℕ → Type 0
+Lines l = (x : Record) × (x ≡ broken → ⊥) × IsLine (line-of x) l
+
+pub exactly : (l : List ℕ) → (reading l ≡ Broken → ⊥) ↔ Lines l
 exactly l = (
-  λ h. (record-of l (reading l), (λ e. h (read-broken l e)), read-line-of l h),
+  read-cases l (λ r. (r ≡ Broken → ⊥) → Lines l) (λ h. absurd (h refl)) (λ make k h. (record-of l (make (read-values make l)), taken-whole l make k, taken-line l make k)),
   λ w e. w .1 (sym (reads (w .0) l (w .2)) ∙ ap (record-of l) e),
+)
+
+-- THEOREM. Number 1 is given exactly where they are not
+pub number-one : (l : List ℕ) → (form-number (reading l) ≡ 1) ↔ (Lines l → ⊥)
+number-one l = (
+  λ e w. exactly l .1 w (read-cases l (λ r. form-number r ≡ 1 → r ≡ Broken) (λ e. refl) (λ make k. rw (k .kind .letter [] (read-values make l), k .kind .named) (λ e. absurd (omega arith))) e),
+  λ h. read-cases l (λ r. form-number r ≡ 1) refl (λ make k. absurd (h (record-of l (make (read-values make l)), taken-whole l make k, taken-line l make k))),
 )
 
 -- THEOREM. Each line has one reading: no line is that of two records, and so no kind's line is read as another kind

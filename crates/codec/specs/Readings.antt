@@ -1,5 +1,5 @@
 -- Document 01, "A record is a kind with its own numbers": what a reading says, with the line beside it, and the reading of a line.
-use mathlib.Core.Bool.{Bool, true, false}
+use mathlib.Core.Bool.{Bool, true, false, cond}
 use mathlib.Core.Option.{Option, none, some}
 use mathlib.Core.List.{List, [], _∷_, map}
 use Prim.Native.Nat.{ℕ, zero, suc, _-_}
@@ -127,6 +127,10 @@ letter-of r = line-of (record-of [] r) .kind
 
 abbrev pub forms-of : Reading → List Field
 forms-of r = map blank (line-of (record-of [] r) .fields)
+
+-- document 01's number for a reading: 1 where the line breaks a form
+abbrev pub form-number : Reading → ℕ
+form-number r = cond (eqb (letter-of r) (code "?")) 1 0
 
 -- ── reading ──
 unfoldable pub choose : Bool → Reading → Reading → Reading

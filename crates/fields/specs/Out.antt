@@ -41,6 +41,11 @@ handed d n b = choose (leb n (length d) && leb n (length b)) (left (take n d ++ 
 unfoldable pub wrote : ℕ → List ℕ → List ℕ → Left
 wrote most cs b = choose (leb (length cs) most && leb (length cs) (length b)) (left (cs ++ drop (length cs) b) (Bytes (length cs))) (left b NoRoom)
 
+-- document 01's number for what a writer says: 21 where it had no room
+abbrev pub room-number : Written → ℕ
+room-number (Bytes n) = 0
+room-number NoRoom = 21
+
 -- a line: the kind's byte, each field after a tab, the LF
 abbrev pub put-fields : Out → List (List ℕ) → Out
 put-fields s [] = s

@@ -10,9 +10,11 @@ use native.Mathlib.Nat.{add-zero, zero-add}
 use lib.Dec.{leb}
 use lib.ListN.{length, take, drop, set, take-append-drop, length-set, length-append}
 use lib.Seq.{take-suc-set, drop-set-lt, take-append-seam}
+use Rattle.laws.specs.Tests.{on}
 use borrow.Author.Tests.{lt-ltb, le-ltb, lt-leb, le-leb}
 use Rattle.fields.specs.Series.{tails}
-use Rattle.fields.specs.Out.{Out, out, put-byte, puts, put-fields, put-line, choose, handed, wrote}
+use Rattle.fields.specs.Out.{Out, out, put-byte, puts, put-fields, put-line, left, choose, handed, wrote, room-number}
+use Rattle.fields.specs.declared.Written.the-variants.{Bytes, NoRoom}
 use Rattle.fields.specs.Numbers.{below}
 
 pub puts-none : (s : Out) → puts s [] ≡ s
@@ -79,3 +81,14 @@ staged cs z d b n e = ⊎-elim full room (below (length z) (length cs))
 
 pub staged-line : (k : ℕ) (fs : List (List ℕ)) (z d b : List ℕ) (n : ℕ) → out d n ≡ put-line (out z 0) k fs → handed d n b ≡ wrote (length z) (k ∷ tails fs) b
 staged-line k fs z d b n e = staged (k ∷ tails fs) z d b n (e ∙ put-line-is (out z 0) k fs)
+
+-- THEOREM. A writer that says 21 leaves the buffer as it was
+pub no-room : (most : ℕ) (cs b : List ℕ) → room-number (wrote most cs b .said) ≡ 21 → wrote most cs b .buffer ≡ b
+unfolding wrote choose
+no-room most cs b = on (λ t. room-number (choose t (left (cs ++ drop (length cs) b) (Bytes (length cs))) (left b NoRoom) .said) ≡ 21 → choose t (left (cs ++ drop (length cs) b) (Bytes (length cs))) (left b NoRoom) .buffer ≡ b)
+    (leb (length cs) most && leb (length cs) (length b)) (λ e h. absurd (omega arith)) (λ e h. refl)
+
+-- THEOREM. With room it does not say so: the line stands at the buffer's start, and what is past the line stays
+pub room : (most : ℕ) (cs b : List ℕ) → length cs ≤ most → length cs ≤ length b → wrote most cs b ≡ left (cs ++ drop (length cs) b) (Bytes (length cs))
+unfolding wrote choose
+room most cs b h k = rw (le-leb (length cs) most h, le-leb (length cs) (length b) k)
