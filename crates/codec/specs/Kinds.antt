@@ -75,20 +75,43 @@ told-cancel-refused : Told to-cancel-refused
 told-cancel-refused l (n, (m, (t, u))) = (plain n, (says-mpid _ m, (says-identifier _ t, tt)))
 
 pub kinds : All Kind makers
-kinds =
-    (record { good = refl; named = refl; letter = λ l vs. refl; same = λ l. refl; told = told-group },
-    (record { good = refl; named = refl; letter = λ l vs. refl; same = λ l. refl; told = told-symbol },
-    (record { good = refl; named = refl; letter = λ l vs. refl; same = λ l. refl; told = told-open },
-    (record { good = refl; named = refl; letter = λ l vs. refl; same = λ l. refl; told = told-new },
-    (record { good = refl; named = refl; letter = λ l vs. refl; same = λ l. refl; told = told-change },
-    (record { good = refl; named = refl; letter = λ l vs. refl; same = λ l. refl; told = told-cancel },
-    (record { good = refl; named = refl; letter = λ l vs. refl; same = λ l. refl; told = told-block },
-    (record { good = refl; named = refl; letter = λ l vs. refl; same = λ l. refl; told = told-unblock },
-    (record { good = refl; named = refl; letter = λ l vs. refl; same = λ l. refl; told = told-quote },
-    (record { good = refl; named = refl; letter = λ l vs. refl; same = λ l. refl; told = told-fill },
-    (record { good = refl; named = refl; letter = λ l vs. refl; same = λ l. refl; told = told-reduction },
-    (record { good = refl; named = refl; letter = λ l vs. refl; same = λ l. refl; told = told-cancel-refused },
-    tt))))))))))))
+kinds = (
+  record { good = refl; named = refl; letter = λ l vs. refl; same = λ l. refl; told = told-group },
+  (
+    record { good = refl; named = refl; letter = λ l vs. refl; same = λ l. refl; told = told-symbol },
+    (
+      record { good = refl; named = refl; letter = λ l vs. refl; same = λ l. refl; told = told-open },
+      (
+        record { good = refl; named = refl; letter = λ l vs. refl; same = λ l. refl; told = told-new },
+        (
+          record { good = refl; named = refl; letter = λ l vs. refl; same = λ l. refl; told = told-change },
+          (
+            record { good = refl; named = refl; letter = λ l vs. refl; same = λ l. refl; told = told-cancel },
+            (
+              record { good = refl; named = refl; letter = λ l vs. refl; same = λ l. refl; told = told-block },
+              (
+                record { good = refl; named = refl; letter = λ l vs. refl; same = λ l. refl; told = told-unblock },
+                (
+                  record { good = refl; named = refl; letter = λ l vs. refl; same = λ l. refl; told = told-quote },
+                  (
+                    record { good = refl; named = refl; letter = λ l vs. refl; same = λ l. refl; told = told-fill },
+                    (
+                      record { good = refl; named = refl; letter = λ l vs. refl; same = λ l. refl; told = told-reduction },
+                      (
+                        record { good = refl; named = refl; letter = λ l vs. refl; same = λ l. refl; told = told-cancel-refused },
+                        tt,
+                      ),
+                    ),
+                  ),
+                ),
+              ),
+            ),
+          ),
+        ),
+      ),
+    ),
+  ),
+)
 
 -- ── from a record to its line ──
 -- a record's fields, read from a line, say the record
@@ -160,6 +183,6 @@ unfolding digits digits-in
 home broken = inl refl
 home (group g t) = inr (record { make = to-group; found = refl; forms = refl; good = refl; width = omega arith; rebuilt = rebuilt-group g t; solid = (mpid-solid, (tt, (tt, (tt, (tt, (tt, (tt, (tt, (tt, tt))))))))) })
 home (symbol id) = inr (record { make = to-symbol; found = refl; forms = refl; good = refl; width = omega arith; rebuilt = rebuilt-symbol id; solid = (tt, tt) })
-home open-day = inr (record { make = to-open; found = refl; forms = refl; good = refl; width = omega arith; rebuilt = rebuilt-open ; solid = tt })
+home open-day = inr (record { make = to-open; found = refl; forms = refl; good = refl; width = omega arith; rebuilt = rebuilt-open; solid = tt })
 home (ask r) = inr (home-ask (r .key) (r .deal))
 home (tell nr w) = inr (home-tell nr w)

@@ -4,3 +4,4 @@ pub mod Writing
 -- and their theorems
 pub mod Kinds
 pub mod Lines
+pub mod Examples
