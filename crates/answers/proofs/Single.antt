@@ -1,5 +1,5 @@
 -- Each public call's statement allows one answer only, and one buffer where it writes. The claims are about the contracts themselves (`Post`).
-use mathlib.Core.Path.{_≡_, sym, ap, _∙_}
+use mathlib.Core.Path.{sym, _∙_}
 use Rattle.answers.proofs.write_answer.Kinds as write-answer-kinds
 use Rattle.answers.proofs.write_answer.Reads as write-answer-reads
 use Rattle.answers.proofs.write_closing.Kinds as write-closing-kinds

@@ -1,32 +1,30 @@
 -- What is written as an answer line or a closing line is the rulebook's line, and fits into 32 and 96 bytes.
 use mathlib.Core.Path.{_≡_, refl, sym, ap, _∙_, subst}
-use mathlib.Core.Bool.{Bool, true, false, cond, _&&_}
 use mathlib.Core.Option.{some, Option·map}
-use mathlib.Core.List.{List, [], _∷_, _++_}
-use Prim.Native.Nat.{ℕ, zero, suc, _+_, _*_, _/_, _%_, _≤_}
+use mathlib.Core.List.{List, [], _∷_}
+use Prim.Native.Nat.{ℕ, _+_, _*_, _/_, _%_, _≤_}
 use Prim.Native.Char.{code}
 use native.Mathlib.Omega.{arith}
-use lib.ListN.{length, take, drop, getElem?}
+use lib.ListN.{length, take, getElem?}
 use lib.Seq.{take-all}
-use Rattle.laws.specs.Tables.{All, all-map, Each}
-use Rattle.rulebook.specs.Names.{word, Ident, ident-of, Mpid}
-use Rattle.rulebook.specs.Lines.{Fits, Record, broken, open-day, group, symbol, ask, tell, Line, line-of, mpid}
+use Rattle.laws.specs.Tables.{All, all-map}
+use Rattle.rulebook.specs.Names.{word, Ident, Mpid}
+use Rattle.rulebook.specs.Lines.{Fits, Record, broken, open-day, group, symbol, ask, tell, mpid}
 use Rattle.rulebook.specs.Kept.{Group as Listed, Books, Tally, tally}
 use Rattle.rulebook.specs.Outcomes.{Answer, name-of, answer-line, closing-line}
 use Rattle.rulebook.specs.Judging.{judge}
 use Rattle.rulebook.specs.Rules.{Sound}
 use Rattle.rulebook.specs.Forms.{answer-formed, closing-formed}
 use Rattle.fields.specs.Digits.{digits, digits-in}
-use Rattle.fields.specs.Series.{bytes-of, tails}
 use Rattle.fields.specs.Forms.{Says, IsLine}
 use Rattle.fields.specs.Widths.{widths, line-width}
-use Rattle.fields.specs.Values.{Packs, mpid-solid}
+use Rattle.fields.specs.Values.{mpid-solid}
 use Rattle.fields.specs.Packing.{Solid}
-use Rattle.codec.specs.Readings.{record-of, letter-of, reading}
+use Rattle.codec.specs.Readings.{record-of, reading}
 use Rattle.codec.specs.Lines.{InForm, letter-same, read-formed, read-in-form}
 use Rattle.codec.specs.declared.Reading.{Reading}
 use Rattle.codec.specs.declared.Reading.the-variants.{Broken, Group, Symbol, Open, New, Change, Cancel, Block, Unblock, Quote, Fill, Reduction, CancelRefused}
-use Rattle.answers.specs.Answering.{name-value, name-bytes, answer-fields, answer-bytes, low-bytes, closing-fields, closing-bytes}
+use Rattle.answers.specs.Answering.{name-bytes, answer-fields, answer-bytes, low-bytes, closing-fields, closing-bytes}
 
 -- ── the answer line ──
 name-said : (l : List ℕ) (r : Reading) → InForm l r → Says (name-of (record-of l r)) (name-bytes l r)

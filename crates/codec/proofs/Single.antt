@@ -1,5 +1,5 @@
 -- Each public call's statement allows one answer only, and one buffer where it writes. The claims are about the contracts themselves (`Post`).
-use mathlib.Core.Path.{_≡_, sym, ap, _∙_}
+use mathlib.Core.Path.{sym, _∙_}
 use Rattle.codec.proofs.read.Kinds as read-kinds
 use Rattle.codec.proofs.read.Reads as read-reads
 use Rattle.codec.proofs.kind_letter.Kinds as kind-letter-kinds

@@ -1,13 +1,11 @@
 -- Document 01's sample day as bytes, and lines that break a form, computed from the definitions.
 use mathlib.Core.Path.{_≡_, refl}
-use mathlib.Core.Bool.{Bool, true, false, not, _&&_, _||_, cond}
+use mathlib.Core.Bool.{cond}
 use mathlib.Core.List.{List, [], _∷_, _++_, map}
 use Prim.Native.Nat.{ℕ}
 use Prim.Native.String.{String}
 use lib.Dec.{eqb}
-use lib.ListN.{length}
 use Rattle.rulebook.specs.Names.{bytes, word}
-use Rattle.rulebook.specs.Lines.{Record}
 use Rattle.rulebook.specs.Examples.{sample}
 use Rattle.fields.specs.Digits.{digit-step, number-of}
 use Rattle.fields.specs.Parts.{stretch, span, field-at, every, has-form, end-at, ended}

@@ -1,9 +1,9 @@
 -- Kind by kind, all that the theorems on lines need of it: its forms are the rulebook's, its values say its record, its record's fields give its values.
-use mathlib.Core.Path.{_≡_, refl, sym, ap, _∙_}
-use mathlib.Core.Bool.{Bool, true, false}
+use mathlib.Core.Path.{_≡_, refl}
+use mathlib.Core.Bool.{true, false}
 use mathlib.Core.Logic.{_⊎_, inl, inr}
 use mathlib.Core.Option.{some}
-use mathlib.Core.List.{List, [], _∷_, map}
+use mathlib.Core.List.{List, [], map}
 use Prim.Native.Nat.{ℕ, _+_, _≤_}
 use native.Mathlib.Omega.{arith}
 use lib.Dec.{eqb}
@@ -17,7 +17,7 @@ use Rattle.fields.specs.Forms.{Says}
 use Rattle.fields.specs.Trips.{goods, Fit, Holds}
 use Rattle.fields.specs.Widths.{widths}
 use Rattle.fields.specs.Values.{Packs, identifier-solid, mpid-solid, says-identifier, says-mpid, says-side, says-yes-no, side-told, yes-no-told}
-use Rattle.codec.specs.Readings.{said, record-of, Maker, to-group, to-symbol, to-open, to-new, to-change, to-cancel, to-block, to-unblock, to-quote, to-fill, to-reduction, to-cancel-refused, makers, letter-of, forms-of}
+use Rattle.codec.specs.Readings.{record-of, Maker, to-group, to-symbol, to-open, to-new, to-change, to-cancel, to-block, to-unblock, to-quote, to-fill, to-reduction, to-cancel-refused, makers, letter-of, forms-of}
 use Rattle.codec.specs.Writing.{fields-of}
 
 plain : {low high n : ℕ} → (low ≤ n) × (n ≤ high) → Says (number low high n) (digits n)

@@ -1,22 +1,21 @@
 -- Document 01: "Each line has one reading and each record one line", and "A line that is read and written again is the same line".
 -- `IsLine` says which bytes are the line of a record. The reading of bytes says a record exactly where they are its line.
-use mathlib.Core.Path.{_≡_, refl, sym, ap, _∙_, subst}
-use mathlib.Core.Bool.{Bool, true, false, not, _&&_, false≢true}
+use mathlib.Core.Path.{_≡_, refl, sym, ap, _∙_}
+use mathlib.Core.Bool.{Bool, true, false, _&&_, false≢true}
 use mathlib.Core.Logic.{⊎-elim, _↔_}
-use mathlib.Core.Option.{Option, none, some}
 use mathlib.Core.List.{List, [], _∷_, map}
-use Prim.Native.Nat.{ℕ, zero, suc, _+_, _-_, _≤_}
+use Prim.Native.Nat.{ℕ, _-_, _≤_}
 use native.Mathlib.Omega.{arith}
 use lib.Dec.{leb, eqb}
 use lib.ListN.{length, drop, getD}
 use borrow.Author.Tests.{le-leb, eq-eqb, eqb-true}
-use Rattle.laws.specs.Tests.{on, opt}
+use Rattle.laws.specs.Tests.{opt}
 use Rattle.laws.specs.Tables.{find, find-true, all-find, All, Each}
 use Rattle.rulebook.specs.Lines.{Record, broken, line-of, Formed}
 use Rattle.fields.specs.Parts.{blank, ended}
-use Rattle.fields.specs.Series.{Value, values, end-of, all-bytes, tails}
+use Rattle.fields.specs.Series.{values, end-of, tails}
 use Rattle.fields.specs.Forms.{Says, IsLine}
-use Rattle.fields.specs.Trips.{Holds, both, back, forth, last-byte}
+use Rattle.fields.specs.Trips.{both, back, forth, last-byte}
 use Rattle.fields.specs.Values.{Packs, each-same, each-fits, fits-each}
 use Rattle.fields.specs.Widths.{line-width}
 use Rattle.codec.specs.Readings.{record-of, Maker, makers, letter-of, forms-of, form-number, choose, read-as, read-by, read-line, reading}

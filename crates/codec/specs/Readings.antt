@@ -8,7 +8,7 @@ use lib.Dec.{eqb}
 use lib.ListN.{length, getD}
 use Rattle.laws.specs.Tables.{find}
 use Rattle.rulebook.specs.Names.{ident-of, mpid-of, Key}
-use Rattle.rulebook.specs.Lines.{new, change, cancel, block, unblock, quote, fill, reduction, cancel-refused, Record, broken, open-day, group, symbol, ask, tell, Field, Line, line-of}
+use Rattle.rulebook.specs.Lines.{new, change, cancel, block, unblock, quote, fill, reduction, cancel-refused, Record, broken, open-day, group, symbol, ask, tell, Field, line-of}
 use Rattle.fields.specs.Parts.{blank, stretch, ended}
 use Rattle.fields.specs.Series.{Value, side-of, values, end-of}
 use Rattle.fields.specs.declared.Place.{Place}

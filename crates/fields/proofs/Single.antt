@@ -1,5 +1,5 @@
 -- Each public call's statement allows one answer only, and one buffer where it writes. The claims are about the contracts themselves (`Post`).
-use mathlib.Core.Path.{_≡_, sym, ap, _∙_}
+use mathlib.Core.Path.{_≡_, sym, _∙_}
 use mathlib.Core.List.{List}
 use Prim.Native.Nat.{ℕ}
 use contract.Lifetimes.{Lfts}

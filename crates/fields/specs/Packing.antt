@@ -1,8 +1,7 @@
 -- Packing an identifier or an MPID into words loses nothing: two texts in one form that pack alike are the same bytes.
 use mathlib.Core.Path.{_≡_, refl, sym, ap, _∙_}
-use mathlib.Core.Bool.{Bool, true}
 use mathlib.Core.List.{List, [], _∷_, _++_}
-use Prim.Native.Nat.{ℕ, zero, suc, _+_, _*_, _≤_, _<_}
+use Prim.Native.Nat.{ℕ, zero, suc, _+_, _≤_}
 use native.Mathlib.Omega.{arith}
 use lib.ListN.{take, drop, take-append-drop}
 use lib.Seq.{drop-drop}

@@ -1,7 +1,7 @@
 -- Document 01, "The day's lines": a field is a stretch of the line, and which bytes have a field's form.
 -- A form is the rulebook's `Field`, whatever its value.
-use Prim.Native.Nat.{ℕ, zero, suc, _+_, _-_}
-use mathlib.Core.Bool.{Bool, true, false, cond, not, _&&_, _||_}
+use Prim.Native.Nat.{ℕ, suc, _+_, _-_}
+use mathlib.Core.Bool.{Bool, true, cond, not, _&&_, _||_}
 use mathlib.Core.List.{List, [], _∷_}
 use lib.ListN.{length, take, drop, getD}
 use lib.Dec.{leb, eqb}

@@ -1,13 +1,13 @@
 -- Document 01, "The day's lines": the fields after a kind, by the list of their forms. Read from a place on, and written each after a tab.
 use Prim.Native.Nat.{ℕ, _+_, _-_}
 use Prim.Native.Char.{code}
-use mathlib.Core.Bool.{Bool, true, false, cond, _&&_}
+use mathlib.Core.Bool.{cond}
 use mathlib.Core.List.{List, [], _∷_, _++_}
 use lib.ListN.{getD}
 use lib.Dec.{eqb}
-use Rattle.rulebook.specs.Lines.{Side, buy, sell, short, exempt, Field, text, letter, number, from-to}
+use Rattle.rulebook.specs.Lines.{Side, buy, sell, short, exempt, Field, text, letter, number}
 use Rattle.fields.specs.Digits.{digits, number-of}
-use Rattle.fields.specs.Parts.{stretch, field-at, takes, has-form, end-at, text-at}
+use Rattle.fields.specs.Parts.{stretch, field-at, end-at, text-at}
 use Rattle.fields.specs.declared.Place.{Place}
 
 -- what a field says: its place where it is a text, its number or letter where it is one

@@ -1,25 +1,24 @@
 -- The two ways of a list of fields, for every list of forms at once: read then written, and written then read.
 use mathlib.Core.Path.{_≡_, refl, sym, ap, _∙_, subst}
-use mathlib.Core.Bool.{Bool, true, false, cond, _&&_, _||_, not, false≢true, and-eq-true-iff, and-false}
-use mathlib.Core.Logic.{_⊎_, inl, inr, ⊎-elim}
-use mathlib.Core.List.{List, [], _∷_, _++_, map, foldl, append-assoc, append-nil}
-use Prim.Native.Nat.{ℕ, zero, suc, _+_, _-_, _<_, _≤_}
+use mathlib.Core.Bool.{Bool, true, false, cond, _&&_, not, false≢true, and-eq-true-iff, and-false}
+use mathlib.Core.Logic.{_⊎_, ⊎-elim}
+use mathlib.Core.List.{List, [], _∷_, _++_, map, foldl, append-assoc}
+use Prim.Native.Nat.{ℕ, suc, _+_, _-_, _<_, _≤_}
 use native.Mathlib.Omega.{arith}
-use native.Mathlib.Numerals.{add-one}
-use lib.ListN.{length, take, drop, getD, length-append, length-drop, drop-of-length-le, List·getD-eq-default}
+use lib.ListN.{length, drop, getD, length-append, drop-of-length-le}
 use lib.Seq.{drop-cons, drop-append-add, getD-append-seam, take-append-seam, take-all}
 use lib.Dec.{leb, eqb}
-use borrow.Author.Tests.{lt-leb, le-leb, leb-true, eq-eqb, ne-eqb, eqb-true}
-use Rattle.laws.specs.Tests.{on, is-none, some-of}
-use Rattle.laws.specs.Tables.{find, All, Each}
+use borrow.Author.Tests.{lt-leb, le-leb, leb-true, ne-eqb, eqb-true}
+use Rattle.laws.specs.Tests.{on}
+use Rattle.laws.specs.Tables.{All, Each}
 use Rattle.rulebook.specs.Names.{word, Ident, ident-of}
-use Rattle.rulebook.specs.Lines.{ceiling, Field, text, letter, number, from-to}
-use Rattle.fields.specs.Digits.{digits, digit-step, number-of, empty}
+use Rattle.rulebook.specs.Lines.{ceiling, Field, text, letter, number}
+use Rattle.fields.specs.Digits.{digit-step, number-of, empty}
 use Rattle.fields.specs.Parts.{blank, stretch, ends, span, field-at, takes, every, has-form, end-at, text-at}
 use Rattle.fields.specs.Series.{Value, value-of, values, end-of, bytes-of, all-bytes, tails}
 use Rattle.fields.specs.Forms.{Says}
 use Rattle.fields.specs.Numbers.{digits-number, number-digits, not-bad, alike}
-use Rattle.fields.specs.Seams.{in-line, span-le, field-none, field-tab, field-in, field-stretch, seam}
+use Rattle.fields.specs.Seams.{field-none, field-stretch, seam}
 
 -- a form that takes neither tab nor LF, no empty field, and no number above the ceiling
 abbrev pub filled : Field → Bool

@@ -1,5 +1,5 @@
 -- Field by field, what a value in its form says, and what a field's value is read as: the forms of document 01 with the rulebook's values.
-use mathlib.Core.Path.{_≡_, refl, sym, ap, _∙_}
+use mathlib.Core.Path.{_≡_, refl, sym, _∙_}
 use mathlib.Core.Bool.{Bool, true, false, cond, not, _||_, false≢true}
 use mathlib.Core.Option.{some}
 use mathlib.Core.List.{List, [], _∷_}
@@ -7,10 +7,10 @@ use Prim.Native.Nat.{ℕ, _≤_}
 use Prim.Native.Char.{code}
 use native.Mathlib.Omega.{arith}
 use lib.Dec.{leb, eqb}
-use lib.ListN.{length, take, drop, drop-of-length-le}
+use lib.ListN.{length, drop-of-length-le}
 use lib.Seq.{take-all}
 use borrow.Author.Tests.{leb-true, eqb-true}
-use Rattle.laws.specs.Tests.{on, split, is-none}
+use Rattle.laws.specs.Tests.{on, is-none}
 use Rattle.laws.specs.Tables.{find, All, all-map, Each}
 use Rattle.rulebook.specs.Names.{bytes, word, ident-of, mpid-of}
 use Rattle.rulebook.specs.Lines.{Side, buy, sell, short, exempt, side-letter, Field, text, letter, number, Fits, from-to, identifier, mpid, side, yes-no}

@@ -2,13 +2,6 @@
 use borrow.Author.Needs.{needs}
 use Rattle.answers.proofs.put_answer.Statement.{statement}
 use Rattle.answers.proofs.put_answer.Tie as tie
-use Rattle.answers.proofs.put_answer.Reads as reads
-use Rattle.answers.proofs.put_answer.Lts as lts
-use Rattle.answers.proofs.put_name.Reads as put-name-reads
-use Rattle.codec.proofs.kind_letter.Reads as kind-letter-reads
-use Rattle.fields.proofs.put.Reads as put-reads
-use Rattle.fields.proofs.put_letter.Reads as put-letter-reads
-use Rattle.fields.proofs.put_numbers.Reads as put-numbers-reads
 
 kind-letter-requires : tie.Need-kind-letter-requires
 kind-letter-requires c κs = search needs

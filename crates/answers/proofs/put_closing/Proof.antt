@@ -2,13 +2,6 @@
 use borrow.Author.Needs.{needs}
 use Rattle.answers.proofs.put_closing.Statement.{statement}
 use Rattle.answers.proofs.put_closing.Tie as tie
-use Rattle.answers.proofs.put_closing.Reads as reads
-use Rattle.answers.proofs.put_closing.Lts as lts
-use Rattle.answers.proofs.put_mpid.Reads as put-mpid-reads
-use Rattle.answers.proofs.yes_or_no.Reads as yes-or-no-reads
-use Rattle.fields.proofs.put.Reads as put-reads
-use Rattle.fields.proofs.put_letter.Reads as put-letter-reads
-use Rattle.fields.proofs.put_numbers.Reads as put-numbers-reads
 
 put-requires : tie.Need-put-requires
 put-requires c κs = search needs

@@ -3,11 +3,6 @@ use Rattle.fields.specs.Out.{puts}
 use borrow.Author.Needs.{needs}
 use Rattle.answers.proofs.put_mpid.Statement.{statement}
 use Rattle.answers.proofs.put_mpid.Tie as tie
-use Rattle.answers.proofs.put_mpid.Reads as reads
-use Rattle.answers.proofs.put_mpid.Lts as lts
-use Rattle.answers.proofs.low_byte.Reads as low-byte-reads
-use Rattle.fields.proofs.put.Reads as put-reads
-use Rattle.fields.proofs.put_letter.Reads as put-letter-reads
 
 low-byte-requires : tie.Need-low-byte-requires
 low-byte-requires c κs = search needs

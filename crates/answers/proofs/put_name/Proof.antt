@@ -2,11 +2,6 @@
 use borrow.Author.Needs.{needs}
 use Rattle.answers.proofs.put_name.Statement.{statement}
 use Rattle.answers.proofs.put_name.Tie as tie
-use Rattle.answers.proofs.put_name.Reads as reads
-use Rattle.answers.proofs.put_name.Lts as lts
-use Rattle.fields.proofs.put_letter.Reads as put-letter-reads
-use Rattle.fields.proofs.put_number.Reads as put-number-reads
-use Rattle.fields.proofs.put_text.Reads as put-text-reads
 
 enum-told : tie.Need-enum-told
 enum-told c = search needs

@@ -1,5 +1,5 @@
 -- `answers::write_answer` meets its contract: the line is put into memory of its own, and handed over from there.
-use mathlib.Core.Path.{_≡_, _∙_}
+use mathlib.Core.Path.{_∙_}
 use lib.ListN.{replicate}
 use denote.Ref.{now}
 use Rattle.fields.specs.Puts.{staged-line}
@@ -8,10 +8,6 @@ use Rattle.answers.specs.Answering.{answer-fields}
 use borrow.Author.Needs.{needs}
 use Rattle.answers.proofs.write_answer.Statement.{statement}
 use Rattle.answers.proofs.write_answer.Tie as tie
-use Rattle.answers.proofs.write_answer.Reads as reads
-use Rattle.answers.proofs.write_answer.Lts as lts
-use Rattle.answers.proofs.put_answer.Reads as put-answer-reads
-use Rattle.fields.proofs.hand_over.Reads as hand-over-reads
 
 slice-aggregate-put-answer : tie.Need-slice-aggregate-put-answer
 slice-aggregate-put-answer c = search needs

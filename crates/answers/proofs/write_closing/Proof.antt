@@ -1,15 +1,11 @@
 -- `answers::write_closing` meets its contract: the line is put into memory of its own, and handed over from there.
-use mathlib.Core.Path.{_≡_, _∙_}
+use mathlib.Core.Path.{_∙_}
 use lib.ListN.{replicate}
 use Rattle.fields.specs.Puts.{staged-line}
 use Rattle.answers.specs.Answering.{closing-kind, closing-fields}
 use borrow.Author.Needs.{needs}
 use Rattle.answers.proofs.write_closing.Statement.{statement}
 use Rattle.answers.proofs.write_closing.Tie as tie
-use Rattle.answers.proofs.write_closing.Reads as reads
-use Rattle.answers.proofs.write_closing.Lts as lts
-use Rattle.answers.proofs.put_closing.Reads as put-closing-reads
-use Rattle.fields.proofs.hand_over.Reads as hand-over-reads
 
 slice-aggregate-put-closing : tie.Need-slice-aggregate-put-closing
 slice-aggregate-put-closing c = search needs

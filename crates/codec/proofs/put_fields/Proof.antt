@@ -2,13 +2,6 @@
 use borrow.Author.Needs.{needs}
 use Rattle.codec.proofs.put_fields.Statement.{statement}
 use Rattle.codec.proofs.put_fields.Tie as tie
-use Rattle.codec.proofs.put_fields.Reads as reads
-use Rattle.codec.proofs.put_fields.Lts as lts
-use Rattle.fields.proofs.put_letter.Reads as put-letter-reads
-use Rattle.fields.proofs.put_number.Reads as put-number-reads
-use Rattle.fields.proofs.put_numbers.Reads as put-numbers-reads
-use Rattle.fields.proofs.put_text.Reads as put-text-reads
-use Rattle.fields.proofs.put_texts.Reads as put-texts-reads
 
 enum-told : tie.Need-enum-told
 enum-told c = search needs

@@ -2,11 +2,6 @@
 use borrow.Author.Needs.{needs}
 use Rattle.codec.proofs.put_record.Statement.{statement}
 use Rattle.codec.proofs.put_record.Tie as tie
-use Rattle.codec.proofs.put_record.Reads as reads
-use Rattle.codec.proofs.put_record.Lts as lts
-use Rattle.codec.proofs.kind_letter.Reads as kind-letter-reads
-use Rattle.codec.proofs.put_fields.Reads as put-fields-reads
-use Rattle.fields.proofs.put.Reads as put-reads
 
 kind-letter-requires : tie.Need-kind-letter-requires
 kind-letter-requires c κs = search needs

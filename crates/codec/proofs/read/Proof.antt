@@ -1,13 +1,9 @@
 -- `codec::read` meets its contract: the test says which.
-use mathlib.Core.Path.{_≡_, sym, _∙_}
+use mathlib.Core.Path.{sym, _∙_}
 use Rattle.codec.specs.Readings.{choose, reading}
 use borrow.Author.Needs.{needs}
 use Rattle.codec.proofs.read.Statement.{statement}
 use Rattle.codec.proofs.read.Tie as tie
-use Rattle.codec.proofs.read.Reads as reads
-use Rattle.codec.proofs.read.Lts as lts
-use Rattle.codec.proofs.read_line.Reads as read-line-reads
-use Rattle.fields.proofs.is_ended.Reads as is-ended-reads
 
 is-ended-requires : tie.Need-is-ended-requires
 is-ended-requires c κs = search needs

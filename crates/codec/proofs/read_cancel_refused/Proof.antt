@@ -3,12 +3,6 @@ use Rattle.codec.specs.Readings.{read-as}
 use borrow.Author.Needs.{needs}
 use Rattle.codec.proofs.read_cancel_refused.Statement.{statement}
 use Rattle.codec.proofs.read_cancel_refused.Tie as tie
-use Rattle.codec.proofs.read_cancel_refused.Reads as reads
-use Rattle.codec.proofs.read_cancel_refused.Lts as lts
-use Rattle.codec.proofs.whole.Reads as whole-reads
-use Rattle.fields.proofs.identifier_at.Reads as identifier-at-reads
-use Rattle.fields.proofs.mpid_at.Reads as mpid-at-reads
-use Rattle.fields.proofs.serial_at.Reads as serial-at-reads
 
 serial-at-requires : tie.Need-serial-at-requires
 serial-at-requires c κs = search needs

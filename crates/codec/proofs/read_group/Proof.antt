@@ -3,13 +3,6 @@ use Rattle.codec.specs.Readings.{read-as}
 use borrow.Author.Needs.{needs}
 use Rattle.codec.proofs.read_group.Statement.{statement}
 use Rattle.codec.proofs.read_group.Tie as tie
-use Rattle.codec.proofs.read_group.Reads as reads
-use Rattle.codec.proofs.read_group.Lts as lts
-use Rattle.codec.proofs.whole.Reads as whole-reads
-use Rattle.fields.proofs.limit_at.Reads as limit-at-reads
-use Rattle.fields.proofs.mpid_at.Reads as mpid-at-reads
-use Rattle.fields.proofs.size_at.Reads as size-at-reads
-use Rattle.fields.proofs.yes_no_at.Reads as yes-no-at-reads
 
 mpid-at-requires : tie.Need-mpid-at-requires
 mpid-at-requires c κs = search needs

@@ -1,25 +1,10 @@
 -- `codec::read_line` meets its contract: the kind is the first byte.
-use mathlib.Core.Path.{_≡_, sym, _∙_}
+use mathlib.Core.Path.{sym, _∙_}
 use borrow.Author.Tests.{ne-eqb}
 use Rattle.codec.specs.Readings.{read-line}
 use borrow.Author.Needs.{needs}
 use Rattle.codec.proofs.read_line.Statement.{statement}
 use Rattle.codec.proofs.read_line.Tie as tie
-use Rattle.codec.proofs.read_line.Reads as reads
-use Rattle.codec.proofs.read_line.Lts as lts
-use Rattle.codec.proofs.read_block.Reads as read-block-reads
-use Rattle.codec.proofs.read_cancel.Reads as read-cancel-reads
-use Rattle.codec.proofs.read_cancel_refused.Reads as read-cancel-refused-reads
-use Rattle.codec.proofs.read_change.Reads as read-change-reads
-use Rattle.codec.proofs.read_fill.Reads as read-fill-reads
-use Rattle.codec.proofs.read_group.Reads as read-group-reads
-use Rattle.codec.proofs.read_new.Reads as read-new-reads
-use Rattle.codec.proofs.read_open.Reads as read-open-reads
-use Rattle.codec.proofs.read_quote.Reads as read-quote-reads
-use Rattle.codec.proofs.read_reduction.Reads as read-reduction-reads
-use Rattle.codec.proofs.read_symbol.Reads as read-symbol-reads
-use Rattle.codec.proofs.read_unblock.Reads as read-unblock-reads
-use Rattle.fields.proofs.byte_at.Reads as byte-at-reads
 
 byte-at-requires : tie.Need-byte-at-requires
 byte-at-requires c κs = search needs

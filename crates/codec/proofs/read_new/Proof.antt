@@ -3,15 +3,6 @@ use Rattle.codec.specs.Readings.{read-as}
 use borrow.Author.Needs.{needs}
 use Rattle.codec.proofs.read_new.Statement.{statement}
 use Rattle.codec.proofs.read_new.Tie as tie
-use Rattle.codec.proofs.read_new.Reads as reads
-use Rattle.codec.proofs.read_new.Lts as lts
-use Rattle.codec.proofs.whole.Reads as whole-reads
-use Rattle.fields.proofs.identifier_at.Reads as identifier-at-reads
-use Rattle.fields.proofs.mpid_at.Reads as mpid-at-reads
-use Rattle.fields.proofs.price_at.Reads as price-at-reads
-use Rattle.fields.proofs.serial_at.Reads as serial-at-reads
-use Rattle.fields.proofs.side_at.Reads as side-at-reads
-use Rattle.fields.proofs.size_at.Reads as size-at-reads
 
 identifier-at-requires : tie.Need-identifier-at-requires
 identifier-at-requires c κs = search needs

@@ -3,9 +3,6 @@ use Rattle.codec.specs.Readings.{read-as}
 use borrow.Author.Needs.{needs}
 use Rattle.codec.proofs.read_open.Statement.{statement}
 use Rattle.codec.proofs.read_open.Tie as tie
-use Rattle.codec.proofs.read_open.Reads as reads
-use Rattle.codec.proofs.read_open.Lts as lts
-use Rattle.codec.proofs.whole.Reads as whole-reads
 
 whole-requires : tie.Need-whole-requires
 whole-requires c κs = search needs

@@ -3,11 +3,6 @@ use Rattle.codec.specs.Readings.{read-as}
 use borrow.Author.Needs.{needs}
 use Rattle.codec.proofs.read_quote.Statement.{statement}
 use Rattle.codec.proofs.read_quote.Tie as tie
-use Rattle.codec.proofs.read_quote.Reads as reads
-use Rattle.codec.proofs.read_quote.Lts as lts
-use Rattle.codec.proofs.whole.Reads as whole-reads
-use Rattle.fields.proofs.quoted_at.Reads as quoted-at-reads
-use Rattle.fields.proofs.serial_at.Reads as serial-at-reads
 
 serial-at-requires : tie.Need-serial-at-requires
 serial-at-requires c κs = search needs

@@ -3,13 +3,6 @@ use Rattle.codec.specs.Readings.{read-as}
 use borrow.Author.Needs.{needs}
 use Rattle.codec.proofs.read_reduction.Statement.{statement}
 use Rattle.codec.proofs.read_reduction.Tie as tie
-use Rattle.codec.proofs.read_reduction.Reads as reads
-use Rattle.codec.proofs.read_reduction.Lts as lts
-use Rattle.codec.proofs.whole.Reads as whole-reads
-use Rattle.fields.proofs.identifier_at.Reads as identifier-at-reads
-use Rattle.fields.proofs.mpid_at.Reads as mpid-at-reads
-use Rattle.fields.proofs.serial_at.Reads as serial-at-reads
-use Rattle.fields.proofs.size_at.Reads as size-at-reads
 
 serial-at-requires : tie.Need-serial-at-requires
 serial-at-requires c κs = search needs

@@ -3,10 +3,6 @@ use Rattle.codec.specs.Readings.{read-as}
 use borrow.Author.Needs.{needs}
 use Rattle.codec.proofs.read_symbol.Statement.{statement}
 use Rattle.codec.proofs.read_symbol.Tie as tie
-use Rattle.codec.proofs.read_symbol.Reads as reads
-use Rattle.codec.proofs.read_symbol.Lts as lts
-use Rattle.codec.proofs.whole.Reads as whole-reads
-use Rattle.fields.proofs.serial_at.Reads as serial-at-reads
 
 serial-at-requires : tie.Need-serial-at-requires
 serial-at-requires c κs = search needs

@@ -3,11 +3,6 @@ use Rattle.codec.specs.Readings.{read-as}
 use borrow.Author.Needs.{needs}
 use Rattle.codec.proofs.read_unblock.Statement.{statement}
 use Rattle.codec.proofs.read_unblock.Tie as tie
-use Rattle.codec.proofs.read_unblock.Reads as reads
-use Rattle.codec.proofs.read_unblock.Lts as lts
-use Rattle.codec.proofs.whole.Reads as whole-reads
-use Rattle.fields.proofs.identifier_at.Reads as identifier-at-reads
-use Rattle.fields.proofs.mpid_at.Reads as mpid-at-reads
 
 identifier-at-requires : tie.Need-identifier-at-requires
 identifier-at-requires c κs = search needs

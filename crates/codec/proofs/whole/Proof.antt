@@ -9,8 +9,6 @@ use Rattle.codec.specs.Readings.{choose}
 use borrow.Author.Needs.{needs}
 use Rattle.codec.proofs.whole.Statement.{statement}
 use Rattle.codec.proofs.whole.Tie as tie
-use Rattle.codec.proofs.whole.Reads as reads
-use Rattle.codec.proofs.whole.Lts as lts
 
 returns : tie.Need-returns
 unfolding choose

@@ -1,5 +1,5 @@
 -- `codec::write_record` meets its contract: the line is put into memory of its own, and handed over from there.
-use mathlib.Core.Path.{_≡_, _∙_}
+use mathlib.Core.Path.{_∙_}
 use lib.ListN.{replicate}
 use denote.Ref.{now}
 use Rattle.fields.specs.Puts.{staged-line}
@@ -8,10 +8,6 @@ use Rattle.codec.specs.Writing.{fields-of}
 use borrow.Author.Needs.{needs}
 use Rattle.codec.proofs.write_record.Statement.{statement}
 use Rattle.codec.proofs.write_record.Tie as tie
-use Rattle.codec.proofs.write_record.Reads as reads
-use Rattle.codec.proofs.write_record.Lts as lts
-use Rattle.codec.proofs.put_record.Reads as put-record-reads
-use Rattle.fields.proofs.hand_over.Reads as hand-over-reads
 
 slice-aggregate-put-record : tie.Need-slice-aggregate-put-record
 slice-aggregate-put-record c = search needs

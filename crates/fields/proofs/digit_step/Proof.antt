@@ -4,9 +4,6 @@ use Rattle.fields.specs.Digits.{digit-step}
 use borrow.Author.Needs.{needs}
 use Rattle.fields.proofs.digit_step.Statement.{statement}
 use Rattle.fields.proofs.digit_step.Tie as tie
-use Rattle.fields.proofs.digit_step.Reads as reads
-use Rattle.fields.proofs.digit_step.Lts as lts
-use Rattle.fields.proofs.wide.Reads as wide-reads
 
 returns : tie.Need-returns
 unfolding digit-step

@@ -2,8 +2,6 @@
 use borrow.Author.Tests.{eq-eqb, ne-eqb}
 use Rattle.fields.proofs.ends_field.Statement.{statement}
 use Rattle.fields.proofs.ends_field.Tie as tie
-use Rattle.fields.proofs.ends_field.Reads as reads
-use Rattle.fields.proofs.ends_field.Lts as lts
 
 returns : tie.Need-returns
 returns c = rw (eq-eqb _ _ (c .if1 .taken))

@@ -1,5 +1,5 @@
 -- `fields::field` meets its contract: where a tab stands, the stretch from there to the next tab or LF lies within the line.
-use mathlib.Core.Path.{_≡_, sym, _∙_}
+use mathlib.Core.Path.{sym, _∙_}
 use denote.Ref.{now}
 use lib.ListN.{drop, length-drop}
 use borrow.Author.Tests.{eq-eqb, ne-eqb}
@@ -10,10 +10,6 @@ use Rattle.fields.specs.Seams.{in-line, span-le, field-none}
 use borrow.Author.Needs.{needs}
 use Rattle.fields.proofs.field.Statement.{statement}
 use Rattle.fields.proofs.field.Tie as tie
-use Rattle.fields.proofs.field.Reads as reads
-use Rattle.fields.proofs.field.Lts as lts
-use Rattle.fields.proofs.byte_at.Reads as byte-at-reads
-use Rattle.fields.proofs.scan.Reads as scan-reads
 
 byte-at-requires : tie.Need-byte-at-requires
 byte-at-requires c κs = search needs

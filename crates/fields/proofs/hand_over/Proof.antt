@@ -1,5 +1,5 @@
 -- `fields::hand_over` meets its contract: the tests say which; the copy takes all that is handed to it.
-use mathlib.Core.Path.{_≡_, refl, sym, ap, _∙_}
+use mathlib.Core.Path.{_≡_}
 use denote.Ref.{now}
 use Prim.Native.Nat.{_-_}
 use lib.ListN.{length, take, length-take}
@@ -10,9 +10,6 @@ use Rattle.fields.specs.Out.{handed, choose}
 use borrow.Author.Needs.{needs}
 use Rattle.fields.proofs.hand_over.Statement.{statement}
 use Rattle.fields.proofs.hand_over.Tie as tie
-use Rattle.fields.proofs.hand_over.Reads as reads
-use Rattle.fields.proofs.hand_over.Lts as lts
-use Rattle.bytes.proofs.copy.Reads as copy-reads
 
 returns : tie.Need-returns
 unfolding handed choose

@@ -2,8 +2,6 @@
 use borrow.Author.Tests.{lt-leb, le-leb}
 use Rattle.fields.proofs.identifier_byte.Statement.{statement}
 use Rattle.fields.proofs.identifier_byte.Tie as tie
-use Rattle.fields.proofs.identifier_byte.Reads as reads
-use Rattle.fields.proofs.identifier_byte.Lts as lts
 
 returns : tie.Need-returns
 returns c = simp (lt-leb 33 _ (c .if1 .taken))

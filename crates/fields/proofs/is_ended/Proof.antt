@@ -1,16 +1,12 @@
 -- `fields::is_ended` meets its contract: the tests say which; no byte is the last of none.
-use mathlib.Core.Path.{_≡_, sym}
+use mathlib.Core.Path.{sym}
 use denote.Ref.{now}
 use borrow.Author.Tests.{lt-leb, le-leb}
-use native.Mathlib.Omega.{arith}
 use Rattle.fields.specs.Parts.{ended}
 use Rattle.fields.specs.Seams.{none-ended}
 use borrow.Author.Needs.{needs}
 use Rattle.fields.proofs.is_ended.Statement.{statement}
 use Rattle.fields.proofs.is_ended.Tie as tie
-use Rattle.fields.proofs.is_ended.Reads as reads
-use Rattle.fields.proofs.is_ended.Lts as lts
-use Rattle.fields.proofs.byte_at.Reads as byte-at-reads
 
 returns : tie.Need-returns
 unfolding ended

@@ -3,9 +3,6 @@ use borrow.Author.Tests.{eq-eqb, ne-eqb}
 use borrow.Author.Needs.{needs}
 use Rattle.fields.proofs.is_letter.Statement.{statement}
 use Rattle.fields.proofs.is_letter.Tie as tie
-use Rattle.fields.proofs.is_letter.Reads as reads
-use Rattle.fields.proofs.is_letter.Lts as lts
-use Rattle.fields.proofs.takes_byte.Reads as takes-byte-reads
 
 shared-slice-read-takes-byte : tie.Need-shared-slice-read-takes-byte
 shared-slice-read-takes-byte c = search needs

@@ -4,9 +4,6 @@ use Rattle.fields.specs.Parts.{has-form}
 use borrow.Author.Needs.{needs}
 use Rattle.fields.proofs.is_text.Statement.{statement}
 use Rattle.fields.proofs.is_text.Tie as tie
-use Rattle.fields.proofs.is_text.Reads as reads
-use Rattle.fields.proofs.is_text.Lts as lts
-use Rattle.fields.proofs.takes_all.Reads as takes-all-reads
 
 returns : tie.Need-returns
 unfolding has-form

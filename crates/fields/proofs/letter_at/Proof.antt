@@ -10,11 +10,6 @@ use Rattle.fields.specs.Seams.{field-in, field-tab, letter-form}
 use borrow.Author.Needs.{needs}
 use Rattle.fields.proofs.letter_at.Statement.{statement}
 use Rattle.fields.proofs.letter_at.Tie as tie
-use Rattle.fields.proofs.letter_at.Reads as reads
-use Rattle.fields.proofs.letter_at.Lts as lts
-use Rattle.fields.proofs.byte_at.Reads as byte-at-reads
-use Rattle.fields.proofs.field.Reads as field-reads
-use Rattle.fields.proofs.is_letter.Reads as is-letter-reads
 
 field-requires : tie.Need-field-requires
 field-requires c κs = search needs

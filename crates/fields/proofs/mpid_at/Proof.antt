@@ -3,9 +3,6 @@ use Rattle.fields.specs.Parts.{form, has-form, end-at}
 use borrow.Author.Needs.{needs}
 use Rattle.fields.proofs.mpid_at.Statement.{statement}
 use Rattle.fields.proofs.mpid_at.Tie as tie
-use Rattle.fields.proofs.mpid_at.Reads as reads
-use Rattle.fields.proofs.mpid_at.Lts as lts
-use Rattle.fields.proofs.text_at.Reads as text-at-reads
 
 text-at-requires : tie.Need-text-at-requires
 text-at-requires c κs = search needs

@@ -4,8 +4,6 @@ use borrow.Author.Tests.{lt-leb, le-leb}
 use native.Mathlib.Omega.{arith}
 use Rattle.fields.proofs.mpid_byte.Statement.{statement}
 use Rattle.fields.proofs.mpid_byte.Tie as tie
-use Rattle.fields.proofs.mpid_byte.Reads as reads
-use Rattle.fields.proofs.mpid_byte.Lts as lts
 
 returns : tie.Need-returns
 returns c = let b = c .before .args .b in simp (lt-leb 65 b (omega arith), lt-leb 48 b (omega arith))

@@ -1,5 +1,5 @@
 -- `fields::number_at` meets its contract: a number in its range has a digit, so a tab stands before it and it lies within the line.
-use mathlib.Core.Path.{_≡_, sym, ap, _∙_}
+use mathlib.Core.Path.{_≡_, ap, _∙_}
 use denote.Ref.{now}
 use lib.ListN.{length}
 use native.Mathlib.Omega.{arith}
@@ -10,10 +10,6 @@ use Rattle.fields.specs.Seams.{field-in, number-tab}
 use borrow.Author.Needs.{needs}
 use Rattle.fields.proofs.number_at.Statement.{statement}
 use Rattle.fields.proofs.number_at.Tie as tie
-use Rattle.fields.proofs.number_at.Reads as reads
-use Rattle.fields.proofs.number_at.Lts as lts
-use Rattle.fields.proofs.field.Reads as field-reads
-use Rattle.fields.proofs.number_of.Reads as number-of-reads
 
 field-requires : tie.Need-field-requires
 field-requires c κs = search needs

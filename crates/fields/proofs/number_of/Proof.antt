@@ -10,9 +10,6 @@ use lib.Seq.{drop-cons}
 use Rattle.fields.specs.Digits.{digit-step, number-of, empty}
 use Rattle.fields.proofs.number_of.Statement.{statement}
 use Rattle.fields.proofs.number_of.Tie as tie
-use Rattle.fields.proofs.number_of.Reads as reads
-use Rattle.fields.proofs.number_of.Lts as lts
-use Rattle.fields.proofs.digit_step.Reads as digit-step-reads
 
 abbrev Inv-loop : tie.InvT-loop
 Inv-loop f v₀ i₀ v i = (i ≤ length f) × (foldl digit-step v (drop i f) ≡ foldl digit-step empty f)

@@ -9,8 +9,6 @@ use Rattle.fields.specs.Parts.{stretch}
 use borrow.Author.Needs.{needs}
 use Rattle.fields.proofs.part.Statement.{statement}
 use Rattle.fields.proofs.part.Tie as tie
-use Rattle.fields.proofs.part.Reads as reads
-use Rattle.fields.proofs.part.Lts as lts
 
 sub-result : tie.Need-sub-result
 sub-result c = search needs

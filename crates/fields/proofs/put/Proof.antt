@@ -4,8 +4,6 @@ use Rattle.fields.specs.Out.{put-byte, puts}
 use borrow.Author.Needs.{needs}
 use Rattle.fields.proofs.put.Statement.{statement}
 use Rattle.fields.proofs.put.Tie as tie
-use Rattle.fields.proofs.put.Reads as reads
-use Rattle.fields.proofs.put.Lts as lts
 
 slice-write-to : tie.Need-slice-write-to
 slice-write-to c = search needs

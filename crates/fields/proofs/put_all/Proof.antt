@@ -9,9 +9,6 @@ use lib.Seq.{drop-cons}
 use Rattle.fields.specs.Out.{out, puts}
 use Rattle.fields.proofs.put_all.Statement.{statement}
 use Rattle.fields.proofs.put_all.Tie as tie
-use Rattle.fields.proofs.put_all.Reads as reads
-use Rattle.fields.proofs.put_all.Lts as lts
-use Rattle.fields.proofs.put.Reads as put-reads
 
 abbrev Inv-loop : tie.InvT-loop
 Inv-loop to₀ at f e₀ i₀ to e i = (puts (out to e) (drop i f) ≡ puts (out to₀ at) f) × (length to ≡ length to₀)

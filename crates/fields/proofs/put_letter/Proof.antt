@@ -4,9 +4,6 @@ use Rattle.fields.specs.Puts.{puts-then}
 use borrow.Author.Needs.{needs}
 use Rattle.fields.proofs.put_letter.Statement.{statement}
 use Rattle.fields.proofs.put_letter.Tie as tie
-use Rattle.fields.proofs.put_letter.Reads as reads
-use Rattle.fields.proofs.put_letter.Lts as lts
-use Rattle.fields.proofs.put.Reads as put-reads
 
 put-requires : tie.Need-put-requires
 put-requires c κs = search needs

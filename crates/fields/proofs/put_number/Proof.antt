@@ -4,10 +4,6 @@ use Rattle.fields.specs.Puts.{puts-then}
 use borrow.Author.Needs.{needs}
 use Rattle.fields.proofs.put_number.Statement.{statement}
 use Rattle.fields.proofs.put_number.Tie as tie
-use Rattle.fields.proofs.put_number.Reads as reads
-use Rattle.fields.proofs.put_number.Lts as lts
-use Rattle.fields.proofs.put.Reads as put-reads
-use Rattle.fields.proofs.put_digits.Reads as put-digits-reads
 
 put-requires : tie.Need-put-requires
 put-requires c κs = search needs

@@ -2,9 +2,6 @@
 use borrow.Author.Needs.{needs}
 use Rattle.fields.proofs.put_numbers.Statement.{statement}
 use Rattle.fields.proofs.put_numbers.Tie as tie
-use Rattle.fields.proofs.put_numbers.Reads as reads
-use Rattle.fields.proofs.put_numbers.Lts as lts
-use Rattle.fields.proofs.put_number.Reads as put-number-reads
 
 put-number-requires : tie.Need-put-number-requires
 put-number-requires c κs = search needs

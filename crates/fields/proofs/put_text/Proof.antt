@@ -4,11 +4,6 @@ use Rattle.fields.specs.Puts.{puts-then}
 use borrow.Author.Needs.{needs}
 use Rattle.fields.proofs.put_text.Statement.{statement}
 use Rattle.fields.proofs.put_text.Tie as tie
-use Rattle.fields.proofs.put_text.Reads as reads
-use Rattle.fields.proofs.put_text.Lts as lts
-use Rattle.fields.proofs.part.Reads as part-reads
-use Rattle.fields.proofs.put.Reads as put-reads
-use Rattle.fields.proofs.put_all.Reads as put-all-reads
 
 put-requires : tie.Need-put-requires
 put-requires c κs = search needs

@@ -2,9 +2,6 @@
 use borrow.Author.Needs.{needs}
 use Rattle.fields.proofs.put_texts.Statement.{statement}
 use Rattle.fields.proofs.put_texts.Tie as tie
-use Rattle.fields.proofs.put_texts.Reads as reads
-use Rattle.fields.proofs.put_texts.Lts as lts
-use Rattle.fields.proofs.put_text.Reads as put-text-reads
 
 put-text-requires : tie.Need-put-text-requires
 put-text-requires c κs = search needs

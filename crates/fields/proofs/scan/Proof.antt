@@ -1,7 +1,7 @@
 -- `fields::scan` meets its contract: from each place passed, the field ends where it ends from the first.
 use borrow.Author.Needs.{needs}
 use mathlib.Core.Path.{_≡_, sym, _∙_}
-use Prim.Native.Nat.{suc, _≤_, _<_, _-_, _+_}
+use Prim.Native.Nat.{suc, _<_, _-_, _+_}
 use native.Mathlib.Numerals.{add-one}
 use native.Mathlib.Omega.{arith}
 use lib.ListN.{length, drop, drop-of-length-le}
@@ -9,9 +9,6 @@ use lib.Seq.{drop-cons}
 use Rattle.fields.specs.Parts.{span}
 use Rattle.fields.proofs.scan.Statement.{statement}
 use Rattle.fields.proofs.scan.Tie as tie
-use Rattle.fields.proofs.scan.Reads as reads
-use Rattle.fields.proofs.scan.Lts as lts
-use Rattle.fields.proofs.ends_field.Reads as ends-field-reads
 
 abbrev Inv-loop : tie.InvT-loop
 Inv-loop line s i₀ i = i + span (drop i line) ≡ s + span (drop s line)

@@ -2,8 +2,6 @@
 use borrow.Author.Tests.{eq-eqb, ne-eqb}
 use Rattle.fields.proofs.side_byte.Statement.{statement}
 use Rattle.fields.proofs.side_byte.Tie as tie
-use Rattle.fields.proofs.side_byte.Reads as reads
-use Rattle.fields.proofs.side_byte.Lts as lts
 
 returns : tie.Need-returns
 returns c = simp (eq-eqb _ 66 (c .if1 .taken))

@@ -1,7 +1,7 @@
 -- `fields::takes_all` meets its contract: what is left is taken whole exactly if all is.
 use borrow.Author.Needs.{needs}
 use mathlib.Core.Path.{_≡_, sym, _∙_}
-use Prim.Native.Nat.{_≤_, _<_, _-_}
+use Prim.Native.Nat.{_<_, _-_}
 use native.Mathlib.Numerals.{add-one}
 use native.Mathlib.Omega.{arith}
 use lib.ListN.{length, drop, drop-of-length-le}
@@ -9,9 +9,6 @@ use lib.Seq.{drop-cons}
 use Rattle.fields.specs.Parts.{form, takes, every}
 use Rattle.fields.proofs.takes_all.Statement.{statement}
 use Rattle.fields.proofs.takes_all.Tie as tie
-use Rattle.fields.proofs.takes_all.Reads as reads
-use Rattle.fields.proofs.takes_all.Lts as lts
-use Rattle.fields.proofs.takes_byte.Reads as takes-byte-reads
 
 abbrev Inv-loop : tie.InvT-loop
 Inv-loop kind f i₀ i = every (takes (form kind)) (drop i f) ≡ every (takes (form kind)) f

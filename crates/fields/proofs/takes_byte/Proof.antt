@@ -4,12 +4,6 @@ use Rattle.fields.specs.Parts.{form}
 use borrow.Author.Needs.{needs}
 use Rattle.fields.proofs.takes_byte.Statement.{statement}
 use Rattle.fields.proofs.takes_byte.Tie as tie
-use Rattle.fields.proofs.takes_byte.Reads as reads
-use Rattle.fields.proofs.takes_byte.Lts as lts
-use Rattle.fields.proofs.identifier_byte.Reads as identifier-byte-reads
-use Rattle.fields.proofs.mpid_byte.Reads as mpid-byte-reads
-use Rattle.fields.proofs.side_byte.Reads as side-byte-reads
-use Rattle.fields.proofs.yes_no_byte.Reads as yes-no-byte-reads
 
 identifier-byte-requires : tie.Need-identifier-byte-requires
 identifier-byte-requires c κs = search needs

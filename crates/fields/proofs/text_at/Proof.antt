@@ -1,5 +1,5 @@
 -- `fields::text_at` meets its contract: a text in its form is not empty, so a tab stands before it and it lies within the line.
-use mathlib.Core.Path.{_≡_, sym, ap, _∙_}
+use mathlib.Core.Path.{sym, ap, _∙_}
 use denote.Ref.{now}
 use lib.ListN.{length}
 use native.Mathlib.Omega.{arith}
@@ -8,10 +8,6 @@ use Rattle.fields.specs.Seams.{field-in, text-tab}
 use borrow.Author.Needs.{needs}
 use Rattle.fields.proofs.text_at.Statement.{statement}
 use Rattle.fields.proofs.text_at.Tie as tie
-use Rattle.fields.proofs.text_at.Reads as reads
-use Rattle.fields.proofs.text_at.Lts as lts
-use Rattle.fields.proofs.field.Reads as field-reads
-use Rattle.fields.proofs.is_text.Reads as is-text-reads
 
 field-requires : tie.Need-field-requires
 field-requires c κs = search needs

@@ -3,9 +3,6 @@ use Rattle.fields.specs.Parts.{form, has-form, end-at}
 use borrow.Author.Needs.{needs}
 use Rattle.fields.proofs.yes_no_at.Statement.{statement}
 use Rattle.fields.proofs.yes_no_at.Tie as tie
-use Rattle.fields.proofs.yes_no_at.Reads as reads
-use Rattle.fields.proofs.yes_no_at.Lts as lts
-use Rattle.fields.proofs.letter_at.Reads as letter-at-reads
 
 letter-at-requires : tie.Need-letter-at-requires
 letter-at-requires c κs = search needs

@@ -2,8 +2,6 @@
 use borrow.Author.Tests.{eq-eqb, ne-eqb}
 use Rattle.fields.proofs.yes_no_byte.Statement.{statement}
 use Rattle.fields.proofs.yes_no_byte.Tie as tie
-use Rattle.fields.proofs.yes_no_byte.Reads as reads
-use Rattle.fields.proofs.yes_no_byte.Lts as lts
 
 returns : tie.Need-returns
 returns c = simp (eq-eqb _ 89 (c .if1 .taken))
