@@ -8,6 +8,11 @@ ghost use Rattle.answers.specs.Answering.{name-bytes, answer-fields, ans
 use codec::Reading;
 use fields::Written;
 
+// The most bytes of an answer line and of a closing line.
+const ANSWER: usize = 32;
+
+const CLOSING: usize = 96;
+
 // The field by which an answer names the record, after a tab.
 fn put_name(to: &mut [u8], at: usize, line: &[u8], rec: Reading) -> usize
     ensures { λ r. ⌜ out (now (to .exit)) r ≡ puts (out (now (to .entry)) at) (9 ∷ name-bytes (now (line .entry)) rec) ⌝ }
@@ -43,7 +48,7 @@ fn put_answer(
     let b = put_name(to, a, line, rec);
     let c = fields::put_letter(to, b, outcome);
     let d = fields::put_numbers(to, c, number, sent);
-    fields::put(to, d, 10)
+    fields::put(to, d, b'\n')
 }
 
 // The lowest byte of a number.
@@ -82,7 +87,7 @@ fn put_closing(to: &mut [u8], mpid: u64, tb: u64, ts: u64, ob: u64, os: u64, blo
     let c = fields::put_numbers(to, b, tb, ts);
     let d = fields::put_numbers(to, c, ob, os);
     let e = fields::put_letter(to, d, yes_or_no(blocked));
-    fields::put(to, e, 10)
+    fields::put(to, e, b'\n')
 }
 
 // Writes the answer line of a record.
@@ -96,7 +101,7 @@ pub fn write_answer(
 ) -> Written
     ensures { λ r. ⌜ left (now (to .exit)) r ≡ wrote 32 (answer-bytes (now (line .entry)) rec outcome number sent) (now (to .entry)) ⌝ }
 {
-    let mut whole_line = [0u8; 32];
+    let mut whole_line = [0u8; ANSWER];
     let n = put_answer(&mut whole_line, line, rec, outcome, number, sent);
     fields::hand_over(&whole_line, n, to)
 }
@@ -113,7 +118,7 @@ pub fn write_closing(
 ) -> Written
     ensures { λ r. ⌜ left (now (to .exit)) r ≡ wrote 96 (closing-bytes mpid tb ts ob os blocked) (now (to .entry)) ⌝ }
 {
-    let mut whole_line = [0u8; 96];
+    let mut whole_line = [0u8; CLOSING];
     let n = put_closing(&mut whole_line, mpid, tb, ts, ob, os, blocked);
     fields::hand_over(&whole_line, n, to)
 }

@@ -9,6 +9,9 @@ ghost use Rattle.fields.specs.Out.{out, put-fields, put-line, left, wrote};
 use fields::Place;
 use fields::Written;
 
+// The most bytes of a line, its LF among them.
+const LINE: usize = 161;
+
 // A line's record: its kind with its own numbers, and where its texts stand in the line.
 pub enum Reading {
     Broken,
@@ -419,14 +422,14 @@ fn put_record(to: &mut [u8], line: &[u8], rec: Reading) -> usize
 {
     let a = fields::put(to, 0, kind_letter(rec));
     let b = put_fields(to, a, line, rec);
-    fields::put(to, b, 10)
+    fields::put(to, b, b'\n')
 }
 
 // Writes a record's line, from its reading and the line that its texts stand in.
 pub fn write_record(line: &[u8], rec: Reading, to: &mut [u8]) -> Written
     ensures { λ r. ⌜ left (now (to .exit)) r ≡ wrote 161 (record-line (now (line .entry)) rec) (now (to .entry)) ⌝ }
 {
-    let mut whole_line = [0u8; 161];
+    let mut whole_line = [0u8; LINE];
     let n = put_record(&mut whole_line, line, rec);
     fields::hand_over(&whole_line, n, to)
 }

@@ -34,11 +34,19 @@ pub enum Written {
     NoRoom,
 }
 
+// No number: a byte that is no digit, a digit after a leading zero, or too large.
 const BAD: u64 = 0xffff_ffff_ffff_ffff;
 
+// No digit yet.
 const EMPTY: u64 = 0xffff_ffff_ffff_fffe;
 
 const CEILING: u64 = 4_000_000_000_000_000_000;
+
+// A number above this has no digit more below the ceiling.
+const TENTH: u64 = 400_000_000_000_000_000;
+
+// The most bytes of a line, its LF among them.
+const LONGEST: usize = 161;
 
 // The forms of texts and letters.
 const IDENTIFIER: u8 = 0;
@@ -59,20 +67,20 @@ fn wide(x: u8) -> u64
 fn digit_step(v: u64, d: u8) -> u64
     ensures { λ r. ⌜ r ≡ digit-step v d ⌝ }
 {
-    if d < 48 {
+    if d < b'0' {
         return BAD;
     }
-    if d > 57 {
+    if d > b'9' {
         return BAD;
     }
-    let x = wide(d - 48);
+    let x = wide(d - b'0');
     if v == EMPTY {
         return x;
     }
     if v == 0 {
         return BAD;
     }
-    if v > 400_000_000_000_000_000 {
+    if v > TENTH {
         return BAD;
     }
     v * 10 + x
@@ -95,10 +103,10 @@ fn number_of(f: &[u8]) -> u64
 fn ends_field(b: u8) -> bool
     ensures { λ r. ⌜ r ≡ ends b ⌝ }
 {
-    if b == 9 {
+    if b == b'\t' {
         return true;
     }
-    b == 10
+    b == b'\n'
 }
 
 // The next tab or LF from a place on, or the line's end.
@@ -129,7 +137,7 @@ pub fn byte_at(line: &[u8], at: usize) -> u8
 pub fn field(line: &[u8], at: usize) -> &[u8]
     ensures { λ r. ⌜ now r ≡ field-at (now (line .entry)) at ⌝ }
 {
-    if byte_at(line, at) == 9 {
+    if byte_at(line, at) == b'\t' {
         let s = at + 1;
         let t = scan(line, s);
         return &line[s..t];
@@ -388,13 +396,13 @@ pub fn is_ended(line: &[u8]) -> bool
     ensures { λ r. ⌜ r ≡ ended (now (line .entry)) ⌝ }
 {
     let n = line.len();
-    if n > 161 {
+    if n > LONGEST {
         return false;
     }
     if n == 0 {
         return false;
     }
-    byte_at(line, n - 1) == 10
+    byte_at(line, n - 1) == b'\n'
 }
 
 // One byte, where it has room.
@@ -434,7 +442,7 @@ fn put_digits(to: &mut [u8], at: usize, n: u64) -> usize
 pub fn put_text(to: &mut [u8], at: usize, line: &[u8], place: Place) -> usize
     ensures { λ r. ⌜ out (now (to .exit)) r ≡ puts (out (now (to .entry)) at) (9 ∷ stretch (now (line .entry)) (place .from) (place .to)) ⌝ }
 {
-    let e = put(to, at, 9);
+    let e = put(to, at, b'\t');
     put_all(to, e, part(line, place))
 }
 
@@ -442,7 +450,7 @@ pub fn put_text(to: &mut [u8], at: usize, line: &[u8], place: Place) -> usize
 pub fn put_number(to: &mut [u8], at: usize, n: u64) -> usize
     ensures { λ r. ⌜ out (now (to .exit)) r ≡ puts (out (now (to .entry)) at) (9 ∷ digits n) ⌝ }
 {
-    let e = put(to, at, 9);
+    let e = put(to, at, b'\t');
     put_digits(to, e, n)
 }
 
@@ -450,7 +458,7 @@ pub fn put_number(to: &mut [u8], at: usize, n: u64) -> usize
 pub fn put_letter(to: &mut [u8], at: usize, b: u8) -> usize
     ensures { λ r. ⌜ out (now (to .exit)) r ≡ puts (out (now (to .entry)) at) (9 ∷ b ∷ []) ⌝ }
 {
-    let e = put(to, at, 9);
+    let e = put(to, at, b'\t');
     put(to, e, b)
 }
 
