@@ -7,7 +7,7 @@ use mathlib.Core.List.{List, [], map}
 use Prim.Native.Nat.{ℕ, _+_, _≤_}
 use native.Mathlib.Omega.{arith}
 use lib.Dec.{eqb}
-use Rattle.laws.specs.Tables.{find, All, Each}
+use Rattle.laws.specs.Tables.{find, All, _also_, Each}
 use Rattle.rulebook.specs.Lines.{number, Side, Terms, Deal, News, new, change, cancel, block, unblock, quote, fill, reduction, cancel-refused, Record, broken, open-day, group, symbol, ask, tell, line-of}
 use Rattle.rulebook.specs.Names.{Ident, Mpid, Key}
 use Rattle.fields.specs.Parts.{blank}
@@ -39,79 +39,55 @@ pub record Kind (make : Maker) : Type 0 where
   pub told : Told make
 
 told-group : Told to-group
-told-group l (m, (a, (b, (c, (d, (e, (f, (z, (x, u))))))))) = (says-mpid _ m, (plain a, (plain b, (plain c, (plain d, (plain e, (plain f, (plain z, (says-yes-no _ x, tt)))))))))
+told-group l (m, (a, (b, (c, (d, (e, (f, (z, (x, u))))))))) = says-mpid _ m also plain a also plain b also plain c also plain d also plain e also plain f also plain z also says-yes-no _ x also tt
 
 told-symbol : Told to-symbol
-told-symbol l (s, u) = (plain s, tt)
+told-symbol l (s, u) = plain s also tt
 
 told-open : Told to-open
 told-open l u = tt
 
 told-new : Told to-new
-told-new l (i, (m, (s, (x, (z, (p, u)))))) = (says-identifier _ i, (says-mpid _ m, (plain s, (says-side _ x, (plain z, (plain p, tt))))))
+told-new l (i, (m, (s, (x, (z, (p, u)))))) = says-identifier _ i also says-mpid _ m also plain s also says-side _ x also plain z also plain p also tt
 
 told-change : Told to-change
-told-change l (i, (m, (t, (z, (p, u))))) = (says-identifier _ i, (says-mpid _ m, (says-identifier _ t, (plain z, (plain p, tt)))))
+told-change l (i, (m, (t, (z, (p, u))))) = says-identifier _ i also says-mpid _ m also says-identifier _ t also plain z also plain p also tt
 
 told-cancel : Told to-cancel
-told-cancel l (i, (m, (t, u))) = (says-identifier _ i, (says-mpid _ m, (says-identifier _ t, tt)))
+told-cancel l (i, (m, (t, u))) = says-identifier _ i also says-mpid _ m also says-identifier _ t also tt
 
 told-block : Told to-block
-told-block l (i, (m, u)) = (says-identifier _ i, (says-mpid _ m, tt))
+told-block l (i, (m, u)) = says-identifier _ i also says-mpid _ m also tt
 
 told-unblock : Told to-unblock
-told-unblock l (i, (m, u)) = (says-identifier _ i, (says-mpid _ m, tt))
+told-unblock l (i, (m, u)) = says-identifier _ i also says-mpid _ m also tt
 
 told-quote : Told to-quote
-told-quote l (n, (s, (b, (o, u)))) = (plain n, (plain s, (plain b, (plain o, tt))))
+told-quote l (n, (s, (b, (o, u)))) = plain n also plain s also plain b also plain o also tt
 
 told-fill : Told to-fill
-told-fill l (n, (m, (t, (z, (p, u))))) = (plain n, (says-mpid _ m, (says-identifier _ t, (plain z, (plain p, tt)))))
+told-fill l (n, (m, (t, (z, (p, u))))) = plain n also says-mpid _ m also says-identifier _ t also plain z also plain p also tt
 
 told-reduction : Told to-reduction
-told-reduction l (n, (m, (t, (z, u)))) = (plain n, (says-mpid _ m, (says-identifier _ t, (plain z, tt))))
+told-reduction l (n, (m, (t, (z, u)))) = plain n also says-mpid _ m also says-identifier _ t also plain z also tt
 
 told-cancel-refused : Told to-cancel-refused
-told-cancel-refused l (n, (m, (t, u))) = (plain n, (says-mpid _ m, (says-identifier _ t, tt)))
+told-cancel-refused l (n, (m, (t, u))) = plain n also says-mpid _ m also says-identifier _ t also tt
 
 pub kinds : All Kind makers
-kinds = (
-  record { good = refl; named = refl; letter = λ l vs. refl; same = λ l. refl; told = told-group },
-  (
-    record { good = refl; named = refl; letter = λ l vs. refl; same = λ l. refl; told = told-symbol },
-    (
-      record { good = refl; named = refl; letter = λ l vs. refl; same = λ l. refl; told = told-open },
-      (
-        record { good = refl; named = refl; letter = λ l vs. refl; same = λ l. refl; told = told-new },
-        (
-          record { good = refl; named = refl; letter = λ l vs. refl; same = λ l. refl; told = told-change },
-          (
-            record { good = refl; named = refl; letter = λ l vs. refl; same = λ l. refl; told = told-cancel },
-            (
-              record { good = refl; named = refl; letter = λ l vs. refl; same = λ l. refl; told = told-block },
-              (
-                record { good = refl; named = refl; letter = λ l vs. refl; same = λ l. refl; told = told-unblock },
-                (
-                  record { good = refl; named = refl; letter = λ l vs. refl; same = λ l. refl; told = told-quote },
-                  (
-                    record { good = refl; named = refl; letter = λ l vs. refl; same = λ l. refl; told = told-fill },
-                    (
-                      record { good = refl; named = refl; letter = λ l vs. refl; same = λ l. refl; told = told-reduction },
-                      (
-                        record { good = refl; named = refl; letter = λ l vs. refl; same = λ l. refl; told = told-cancel-refused },
-                        tt,
-                      ),
-                    ),
-                  ),
-                ),
-              ),
-            ),
-          ),
-        ),
-      ),
-    ),
-  ),
-)
+kinds =
+    record { good = refl; named = refl; letter = λ l vs. refl; same = λ l. refl; told = told-group } also
+    record { good = refl; named = refl; letter = λ l vs. refl; same = λ l. refl; told = told-symbol } also
+    record { good = refl; named = refl; letter = λ l vs. refl; same = λ l. refl; told = told-open } also
+    record { good = refl; named = refl; letter = λ l vs. refl; same = λ l. refl; told = told-new } also
+    record { good = refl; named = refl; letter = λ l vs. refl; same = λ l. refl; told = told-change } also
+    record { good = refl; named = refl; letter = λ l vs. refl; same = λ l. refl; told = told-cancel } also
+    record { good = refl; named = refl; letter = λ l vs. refl; same = λ l. refl; told = told-block } also
+    record { good = refl; named = refl; letter = λ l vs. refl; same = λ l. refl; told = told-unblock } also
+    record { good = refl; named = refl; letter = λ l vs. refl; same = λ l. refl; told = told-quote } also
+    record { good = refl; named = refl; letter = λ l vs. refl; same = λ l. refl; told = told-fill } also
+    record { good = refl; named = refl; letter = λ l vs. refl; same = λ l. refl; told = told-reduction } also
+    record { good = refl; named = refl; letter = λ l vs. refl; same = λ l. refl; told = told-cancel-refused } also tt
 
 -- ── from a record to its line ──
 -- a record's fields, read from a line, say the record
@@ -127,6 +103,9 @@ pub record Home (x : Record) : Type 0 where
   pub rebuilt : Rebuilt x make
   pub solid : All Packs (line-of x .fields)
 
+key-told : {w : ℕ} {n : Ident} {k : Key} → w ≡ k .owner .mpid .code → n ≡ k .name → record { owner = record { mpid = record { code = w } }; name = n } ≡ k
+key-told p q = λ j. record { owner = record { mpid = record { code = p j } }; name = q j }
+
 rebuilt-group : (g : Mpid) (t : Terms) → Rebuilt (group g t) to-group
 rebuilt-group g t l (m, (a, (b, (c, (d, (e, (f, (z, (x, u))))))))) = λ j. group (record { code = m .1 (omega arith) j }) (record { limits = record { gross-trade = a j; net-trade = b j; gross-open = c j; net-open = d j; gross-both = e j; net-both = f j }; max-size = z j; short-sales = yes-no-told (t .short-sales) _ x j })
 
@@ -137,52 +116,52 @@ rebuilt-open : Rebuilt (open-day) to-open
 rebuilt-open l u = λ j. open-day
 
 rebuilt-new : (k : Key) (sy : ℕ) (si : Side) (sz pr : ℕ) → Rebuilt (ask (record { key = k; deal = new sy si sz pr })) to-new
-rebuilt-new k sy si sz pr l (i, (m, (s, (x, (z, (p, u)))))) = λ j. ask (record { key = record { owner = record { mpid = record { code = m .1 (omega arith) j } }; name = i .0 j }; deal = new (s j) (side-told si _ x j) (z j) (p j) })
+rebuilt-new k sy si sz pr l (i, (m, (s, (x, (z, (p, u)))))) = λ j. ask (record { key = key-told (m .1 (omega arith)) (i .0) j; deal = new (s j) (side-told si _ x j) (z j) (p j) })
 
 rebuilt-change : (k : Key) (ta : Ident) (sz pr : ℕ) → Rebuilt (ask (record { key = k; deal = change ta sz pr })) to-change
-rebuilt-change k ta sz pr l (i, (m, (t, (z, (p, u))))) = λ j. ask (record { key = record { owner = record { mpid = record { code = m .1 (omega arith) j } }; name = i .0 j }; deal = change (t .0 j) (z j) (p j) })
+rebuilt-change k ta sz pr l (i, (m, (t, (z, (p, u))))) = λ j. ask (record { key = key-told (m .1 (omega arith)) (i .0) j; deal = change (t .0 j) (z j) (p j) })
 
 rebuilt-cancel : (k : Key) (ta : Ident) → Rebuilt (ask (record { key = k; deal = cancel ta })) to-cancel
-rebuilt-cancel k ta l (i, (m, (t, u))) = λ j. ask (record { key = record { owner = record { mpid = record { code = m .1 (omega arith) j } }; name = i .0 j }; deal = cancel (t .0 j) })
+rebuilt-cancel k ta l (i, (m, (t, u))) = λ j. ask (record { key = key-told (m .1 (omega arith)) (i .0) j; deal = cancel (t .0 j) })
 
 rebuilt-block : (k : Key) → Rebuilt (ask (record { key = k; deal = block })) to-block
-rebuilt-block k l (i, (m, u)) = λ j. ask (record { key = record { owner = record { mpid = record { code = m .1 (omega arith) j } }; name = i .0 j }; deal = block })
+rebuilt-block k l (i, (m, u)) = λ j. ask (record { key = key-told (m .1 (omega arith)) (i .0) j; deal = block })
 
 rebuilt-unblock : (k : Key) → Rebuilt (ask (record { key = k; deal = unblock })) to-unblock
-rebuilt-unblock k l (i, (m, u)) = λ j. ask (record { key = record { owner = record { mpid = record { code = m .1 (omega arith) j } }; name = i .0 j }; deal = unblock })
+rebuilt-unblock k l (i, (m, u)) = λ j. ask (record { key = key-told (m .1 (omega arith)) (i .0) j; deal = unblock })
 
 rebuilt-quote : (nr sy bi of : ℕ) → Rebuilt (tell nr (quote sy bi of)) to-quote
 rebuilt-quote nr sy bi of l (n, (s, (b, (o, u)))) = λ j. tell (n j) (quote (s j) (b j) (o j))
 
 rebuilt-fill : (nr : ℕ) (k : Key) (sz pr : ℕ) → Rebuilt (tell nr (fill k sz pr)) to-fill
-rebuilt-fill nr k sz pr l (n, (m, (t, (z, (p, u))))) = λ j. tell (n j) (fill (record { owner = record { mpid = record { code = m .1 (omega arith) j } }; name = t .0 j }) (z j) (p j))
+rebuilt-fill nr k sz pr l (n, (m, (t, (z, (p, u))))) = λ j. tell (n j) (fill (key-told (m .1 (omega arith)) (t .0) j) (z j) (p j))
 
 rebuilt-reduction : (nr : ℕ) (k : Key) (sz : ℕ) → Rebuilt (tell nr (reduction k sz)) to-reduction
-rebuilt-reduction nr k sz l (n, (m, (t, (z, u)))) = λ j. tell (n j) (reduction (record { owner = record { mpid = record { code = m .1 (omega arith) j } }; name = t .0 j }) (z j))
+rebuilt-reduction nr k sz l (n, (m, (t, (z, u)))) = λ j. tell (n j) (reduction (key-told (m .1 (omega arith)) (t .0) j) (z j))
 
 rebuilt-cancel-refused : (nr : ℕ) (k : Key) → Rebuilt (tell nr (cancel-refused k)) to-cancel-refused
-rebuilt-cancel-refused nr k l (n, (m, (t, u))) = λ j. tell (n j) (cancel-refused (record { owner = record { mpid = record { code = m .1 (omega arith) j } }; name = t .0 j }))
+rebuilt-cancel-refused nr k l (n, (m, (t, u))) = λ j. tell (n j) (cancel-refused (key-told (m .1 (omega arith)) (t .0) j))
 
 home-ask : (k : Key) (d : Deal) → Home (ask (record { key = k; deal = d }))
 unfolding digits digits-in
-home-ask k (new sy si sz pr) = record { make = to-new; found = refl; forms = refl; good = refl; width = omega arith; rebuilt = rebuilt-new k sy si sz pr; solid = (identifier-solid, (mpid-solid, (tt, (tt, (tt, (tt, tt)))))) }
-home-ask k (change ta sz pr) = record { make = to-change; found = refl; forms = refl; good = refl; width = omega arith; rebuilt = rebuilt-change k ta sz pr; solid = (identifier-solid, (mpid-solid, (identifier-solid, (tt, (tt, tt))))) }
-home-ask k (cancel ta) = record { make = to-cancel; found = refl; forms = refl; good = refl; width = omega arith; rebuilt = rebuilt-cancel k ta; solid = (identifier-solid, (mpid-solid, (identifier-solid, tt))) }
-home-ask k block = record { make = to-block; found = refl; forms = refl; good = refl; width = omega arith; rebuilt = rebuilt-block k; solid = (identifier-solid, (mpid-solid, tt)) }
-home-ask k unblock = record { make = to-unblock; found = refl; forms = refl; good = refl; width = omega arith; rebuilt = rebuilt-unblock k; solid = (identifier-solid, (mpid-solid, tt)) }
+home-ask k (new sy si sz pr) = record { make = to-new; found = refl; forms = refl; good = refl; width = omega arith; rebuilt = rebuilt-new k sy si sz pr; solid = identifier-solid also mpid-solid also tt also tt also tt also tt also tt }
+home-ask k (change ta sz pr) = record { make = to-change; found = refl; forms = refl; good = refl; width = omega arith; rebuilt = rebuilt-change k ta sz pr; solid = identifier-solid also mpid-solid also identifier-solid also tt also tt also tt }
+home-ask k (cancel ta) = record { make = to-cancel; found = refl; forms = refl; good = refl; width = omega arith; rebuilt = rebuilt-cancel k ta; solid = identifier-solid also mpid-solid also identifier-solid also tt }
+home-ask k block = record { make = to-block; found = refl; forms = refl; good = refl; width = omega arith; rebuilt = rebuilt-block k; solid = identifier-solid also mpid-solid also tt }
+home-ask k unblock = record { make = to-unblock; found = refl; forms = refl; good = refl; width = omega arith; rebuilt = rebuilt-unblock k; solid = identifier-solid also mpid-solid also tt }
 
 home-tell : (nr : ℕ) (w : News) → Home (tell nr w)
 unfolding digits digits-in
-home-tell nr (quote sy bi of) = record { make = to-quote; found = refl; forms = refl; good = refl; width = omega arith; rebuilt = rebuilt-quote nr sy bi of; solid = (tt, (tt, (tt, (tt, tt)))) }
-home-tell nr (fill k sz pr) = record { make = to-fill; found = refl; forms = refl; good = refl; width = omega arith; rebuilt = rebuilt-fill nr k sz pr; solid = (tt, (mpid-solid, (identifier-solid, (tt, (tt, tt))))) }
-home-tell nr (reduction k sz) = record { make = to-reduction; found = refl; forms = refl; good = refl; width = omega arith; rebuilt = rebuilt-reduction nr k sz; solid = (tt, (mpid-solid, (identifier-solid, (tt, tt)))) }
-home-tell nr (cancel-refused k) = record { make = to-cancel-refused; found = refl; forms = refl; good = refl; width = omega arith; rebuilt = rebuilt-cancel-refused nr k; solid = (tt, (mpid-solid, (identifier-solid, tt))) }
+home-tell nr (quote sy bi of) = record { make = to-quote; found = refl; forms = refl; good = refl; width = omega arith; rebuilt = rebuilt-quote nr sy bi of; solid = tt also tt also tt also tt also tt }
+home-tell nr (fill k sz pr) = record { make = to-fill; found = refl; forms = refl; good = refl; width = omega arith; rebuilt = rebuilt-fill nr k sz pr; solid = tt also mpid-solid also identifier-solid also tt also tt also tt }
+home-tell nr (reduction k sz) = record { make = to-reduction; found = refl; forms = refl; good = refl; width = omega arith; rebuilt = rebuilt-reduction nr k sz; solid = tt also mpid-solid also identifier-solid also tt also tt }
+home-tell nr (cancel-refused k) = record { make = to-cancel-refused; found = refl; forms = refl; good = refl; width = omega arith; rebuilt = rebuilt-cancel-refused nr k; solid = tt also mpid-solid also identifier-solid also tt }
 
 pub home : (x : Record) → (x ≡ broken) ⊎ Home x
 unfolding digits digits-in
 home broken = inl refl
-home (group g t) = inr (record { make = to-group; found = refl; forms = refl; good = refl; width = omega arith; rebuilt = rebuilt-group g t; solid = (mpid-solid, (tt, (tt, (tt, (tt, (tt, (tt, (tt, (tt, tt))))))))) })
-home (symbol id) = inr (record { make = to-symbol; found = refl; forms = refl; good = refl; width = omega arith; rebuilt = rebuilt-symbol id; solid = (tt, tt) })
+home (group g t) = inr (record { make = to-group; found = refl; forms = refl; good = refl; width = omega arith; rebuilt = rebuilt-group g t; solid = mpid-solid also tt also tt also tt also tt also tt also tt also tt also tt also tt })
+home (symbol id) = inr (record { make = to-symbol; found = refl; forms = refl; good = refl; width = omega arith; rebuilt = rebuilt-symbol id; solid = tt also tt })
 home open-day = inr (record { make = to-open; found = refl; forms = refl; good = refl; width = omega arith; rebuilt = rebuilt-open; solid = tt })
 home (ask r) = inr (home-ask (r .key) (r .deal))
 home (tell nr w) = inr (home-tell nr w)

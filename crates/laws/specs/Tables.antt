@@ -63,6 +63,11 @@ module _ {A : Type 0} where
   sum-append f [] ys = omega arith
   sum-append f (x ∷ xs) ys = omega (arith, sum-append f xs ys)
 
+-- what is said of a list's entries, one after the other
+infixr 4 _also_
+abbrev pub _also_ : {A B : Type 0} → A → B → A × B
+a also b = (a, b)
+
 -- two lists, entry by entry
 abbrev pub Each : {A B : Type 0} → (A → B → Type 0) → List A → List B → Type 0
 Each R [] [] = Unit {0}
