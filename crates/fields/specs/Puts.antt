@@ -17,10 +17,6 @@ use Rattle.fields.specs.Out.{Out, out, put-byte, puts, put-fields, put-l
 use Rattle.fields.specs.declared.Written.the-variants.{Bytes, NoRoom}
 use Rattle.fields.specs.Numbers.{below}
 
-pub puts-none : (s : Out) → puts s [] ≡ s
-unfolding puts
-puts-none s = refl
-
 pub puts-then : (s : Out) (xs ys : List ℕ) → puts s (xs ++ ys) ≡ puts (puts s xs) ys
 unfolding puts
 puts-then s xs ys = foldl-append put-byte s xs ys
