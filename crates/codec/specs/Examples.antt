@@ -9,14 +9,14 @@ use Rattle.rulebook.specs.Names.{bytes, word}
 use Rattle.rulebook.specs.Examples.{sample}
 use Rattle.fields.specs.Digits.{digit-step, number-of}
 use Rattle.fields.specs.Parts.{stretch, span, field-at, every, has-form, end-at, ended}
-use Rattle.codec.specs.Readings.{record-of, form-number, choose, read-as, read-line, reading}
+use Rattle.codec.specs.Readings.{record-of, form-number, read-as, read-line, reading}
 
 -- "Tabs are shown as spaces": a line as the paper prints it
 abbrev shown : String → List ℕ
 shown s = map (λ c. cond (eqb c 32) 9 c) (bytes s) ++ (10 ∷ [])
 
 computing : Unit {0}
-unfolding word digit-step number-of stretch span field-at every has-form end-at ended choose read-as read-line reading
+unfolding word digit-step number-of stretch span field-at every has-form end-at ended read-as read-line reading
 computing = tt
 
 -- THEOREM. The lines of document 01's day are read as its records

@@ -1,7 +1,7 @@
 -- Document 01: "Each line has one reading and each record one line", and "A line that is read and written again is the same line".
 -- `IsLine` says which bytes are the line of a record. The reading of bytes says a record exactly where they are its line.
 use mathlib.Core.Path.{_≡_, refl, sym, ap, _∙_}
-use mathlib.Core.Bool.{Bool, true, false, _&&_, false≢true}
+use mathlib.Core.Bool.{Bool, true, false, cond, _&&_, false≢true}
 use mathlib.Core.Logic.{⊎-elim, _↔_}
 use mathlib.Core.List.{List, [], _∷_, map}
 use Prim.Native.Nat.{ℕ, _-_, _≤_}
@@ -9,7 +9,7 @@ use native.Mathlib.Omega.{arith}
 use lib.Dec.{leb, eqb}
 use lib.ListN.{length, drop, getD}
 use borrow.Author.Tests.{le-leb, eq-eqb, eqb-true}
-use Rattle.laws.specs.Tests.{opt}
+use Rattle.laws.specs.Tests.{opt, split}
 use Rattle.laws.specs.Tables.{find, find-true, all-find, All, Each}
 use Rattle.rulebook.specs.Lines.{Record, broken, line-of, Formed}
 use Rattle.fields.specs.Parts.{blank, ended}
@@ -18,17 +18,11 @@ use Rattle.fields.specs.Forms.{Says, IsLine}
 use Rattle.fields.specs.Trips.{both, back, forth, last-byte}
 use Rattle.fields.specs.Values.{Packs, each-same, each-fits, fits-each}
 use Rattle.fields.specs.Widths.{line-width}
-use Rattle.codec.specs.Readings.{record-of, Maker, makers, letter-of, forms-of, form-number, choose, read-as, read-by, read-line, reading}
+use Rattle.codec.specs.Readings.{record-of, Maker, makers, letter-of, forms-of, form-number, read-as, read-by, read-line, reading}
 use Rattle.codec.specs.Writing.{fields-of, record-line}
 use Rattle.codec.specs.Kinds.{read-values, Kind, kinds, Home, home}
 use Rattle.codec.specs.declared.Reading.{Reading}
 use Rattle.codec.specs.declared.Reading.the-variants.{Broken, Group, Symbol, Open, New, Change, Cancel, Block, Unblock, Quote, Fill, Reduction, CancelRefused}
-
--- a goal at a choice of readings
-choose-cases : (P : Reading → Type 0) (b : Bool) (r : Reading) → P Broken → (b ≡ true → P r) → P (choose b r Broken)
-unfolding choose
-choose-cases P true r p q = q refl
-choose-cases P false r p q = p
 
 -- what is read: nothing, or a line of some kind whose fields end before its LF
 record Taken (l : List ℕ) (make : Maker) : Type 0 where
@@ -39,13 +33,16 @@ record Taken (l : List ℕ) (make : Maker) : Type 0 where
 
 read-cases : (l : List ℕ) (P : Reading → Type 0) → P Broken → ((make : Maker) → Taken l make → P (make (read-values make l))) → P (reading l)
 unfolding reading ended read-line read-as
-read-cases l P p q = choose-cases P (leb (length l) 161 && eqb (getD l (length l - 1) 0) 10) (read-by l (find test makers)) p λ h.
+read-cases l P p q = taken (leb (length l) 161 && eqb (getD l (length l - 1) 0) 10) (read-by l (find test makers)) λ h.
     opt (λ o. P (read-by l o)) (find test makers) (λ e. p) λ make e.
-    choose-cases P (eqb (length l - end-of (forms-of (make [])) l 1) 1) (make (read-values make l)) p λ k.
+    taken (eqb (length l - end-of (forms-of (make [])) l 1) 1) (make (read-values make l)) λ k.
     q make (record { kind = all-find Kind test makers kinds e; first = eqb-true _ _ (find-true test makers e); last = eqb-true _ 10 (both {a = leb (length l) 161} h .1); end = eqb-true _ 1 k })
   where
     test : Maker → Bool
     test make = eqb (getD l 0 0) (letter-of (make []))
+
+    taken : (b : Bool) (r : Reading) → (b ≡ true → P r) → P (cond b r Broken)
+    taken b r f = split P b r Broken f (λ e. p)
 
 -- ── from a line to its record ──
 cut : (l : List ℕ) → 1 ≤ length l → l ≡ getD l 0 0 ∷ drop 1 l
@@ -72,13 +69,13 @@ read-line-of l = read-cases l (λ r. (r ≡ Broken → ⊥) → IsLine (line-of 
 
 -- ── from a record to its line ──
 line-of-broken : (l : List ℕ) → IsLine (line-of broken) l → reading l ≡ Broken
-unfolding reading ended read-line read-as choose tails
+unfolding reading ended read-line read-as tails
 line-of-broken l ([], q, s) = rw q
 line-of-broken l (f ∷ fs, q, s) = absurd s
 
 found-read : (x : Record) (h : Home x) (l : List ℕ) → getD l 0 0 ≡ line-of x .kind → ended l ≡ true → length l - end-of (map blank (line-of x .fields)) l 1 ≡ 1
     → reading l ≡ h .make (values (map blank (line-of x .fields)) l 1)
-unfolding reading read-line read-as choose
+unfolding reading read-line read-as
 found-read x h l first last end = rw (last, first, h .found, h .forms, end)
 
 home-read : (x : Record) → Home x → (l : List ℕ) → IsLine (line-of x) l → record-of l (reading l) ≡ x
@@ -97,18 +94,19 @@ reads x l i = ⊎-elim (λ (e : x ≡ broken). rw (line-of-broken l (rw e at i))
 taken-whole : (l : List ℕ) (make : Maker) → Taken l make → record-of l (make (read-values make l)) ≡ broken → ⊥
 taken-whole l make k e = false≢true (sym (k .kind .named) ∙ eq-eqb _ _ (sym (k .kind .letter l (read-values make l)) ∙ ap (λ (x : Record). line-of x .kind) e))
 
--- THEOREM. Bytes are taken exactly where they are the line of a record
-abbrev pub Lines : List ℕ → Type 0
-Lines l = (x : Record) × (x ≡ broken → ⊥) × IsLine (line-of x) l
+-- some record has this line
+abbrev pub SomeRecord : List ℕ → Type 0
+SomeRecord l = (x : Record) × (x ≡ broken → ⊥) × IsLine (line-of x) l
 
-pub exactly : (l : List ℕ) → (reading l ≡ Broken → ⊥) ↔ Lines l
+-- THEOREM. Bytes are taken exactly where they are the line of a record
+pub exactly : (l : List ℕ) → (reading l ≡ Broken → ⊥) ↔ SomeRecord l
 exactly l = (
-  read-cases l (λ r. (r ≡ Broken → ⊥) → Lines l) (λ h. absurd (h refl)) (λ make k h. (record-of l (make (read-values make l)), taken-whole l make k, taken-line l make k)),
+  read-cases l (λ r. (r ≡ Broken → ⊥) → SomeRecord l) (λ h. absurd (h refl)) (λ make k h. (record-of l (make (read-values make l)), taken-whole l make k, taken-line l make k)),
   λ w e. w .1 (sym (reads (w .0) l (w .2)) ∙ ap (record-of l) e),
 )
 
 -- THEOREM. Number 1 is given exactly where they are not
-pub number-one : (l : List ℕ) → (form-number (reading l) ≡ 1) ↔ (Lines l → ⊥)
+pub number-one : (l : List ℕ) → (form-number (reading l) ≡ 1) ↔ (SomeRecord l → ⊥)
 number-one l = (
   λ e w. exactly l .1 w (read-cases l (λ r. form-number r ≡ 1 → r ≡ Broken) (λ e. refl) (λ make k. rw (k .kind .letter [] (read-values make l), k .kind .named) (λ e. absurd (omega arith))) e),
   λ h. read-cases l (λ r. form-number r ≡ 1) refl (λ make k. absurd (h (record-of l (make (read-values make l)), taken-whole l make k, taken-line l make k))),

@@ -1,5 +1,5 @@
 -- Document 01, "A record is a kind with its own numbers": what a reading says, with the line beside it, and the reading of a line.
-use mathlib.Core.Bool.{Bool, true, false, cond}
+use mathlib.Core.Bool.{cond}
 use mathlib.Core.Option.{Option, none, some}
 use mathlib.Core.List.{List, [], _∷_, map}
 use Prim.Native.Nat.{ℕ, zero, suc, _-_}
@@ -9,16 +9,13 @@ use lib.ListN.{length, getD}
 use Rattle.laws.specs.Tables.{find}
 use Rattle.rulebook.specs.Names.{ident-of, mpid-of, Key}
 use Rattle.rulebook.specs.Lines.{new, change, cancel, block, unblock, quote, fill, reduction, cancel-refused, Record, broken, open-day, group, symbol, ask, tell, Field, line-of}
-use Rattle.fields.specs.Parts.{blank, stretch, ended}
+use Rattle.fields.specs.Parts.{blank, said, ended}
 use Rattle.fields.specs.Series.{Value, side-of, values, end-of}
 use Rattle.fields.specs.declared.Place.{Place}
 use Rattle.codec.specs.declared.Reading.{Reading}
 use Rattle.codec.specs.declared.Reading.the-variants.{Broken, Group, Symbol, Open, New, Change, Cancel, Block, Unblock, Quote, Fill, Reduction, CancelRefused}
 
--- the bytes of a place, and the key that an MPID and an identifier make
-abbrev pub said : List ℕ → Place → List ℕ
-said l p = stretch l (p .from) (p .to)
-
+-- the key that an MPID and an identifier make
 abbrev pub key-of : List ℕ → Place → Place → Key
 key-of l m i = record { owner = record { mpid = mpid-of (said l m) }; name = ident-of (said l i) }
 
@@ -133,13 +130,9 @@ abbrev pub form-number : Reading → ℕ
 form-number r = cond (eqb (letter-of r) (code "?")) 1 0
 
 -- ── reading ──
-unfoldable pub choose : Bool → Reading → Reading → Reading
-choose true a b = a
-choose false a b = b
-
 -- a line of one kind: each field has its form, and the last ends before the line's last byte
 unfoldable pub read-as : Maker → List ℕ → Reading
-read-as make l = choose (eqb (length l - end-of (forms-of (make [])) l 1) 1) (make (values (forms-of (make [])) l 1)) Broken
+read-as make l = cond (eqb (length l - end-of (forms-of (make [])) l 1) 1) (make (values (forms-of (make [])) l 1)) Broken
 
 abbrev pub read-by : List ℕ → Option Maker → Reading
 read-by l none = Broken
@@ -150,4 +143,4 @@ unfoldable pub read-line : List ℕ → Reading
 read-line l = read-by l (find (λ make. eqb (getD l 0 0) (letter-of (make []))) makers)
 
 unfoldable pub reading : List ℕ → Reading
-reading l = choose (ended l) (read-line l) Broken
+reading l = cond (ended l) (read-line l) Broken

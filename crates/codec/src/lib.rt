@@ -1,9 +1,10 @@
 // The day's lines: each read into its record, and records, answers and closing lines written.
 ghost use mathlib.Core.Path.{_≡_};
+ghost use mathlib.Core.Bool.{cond};
 ghost use Prim.Native.Nat.{_-_};
 ghost use lib.Dec.{eqb};
 ghost use lib.ListN.{length};
-ghost use Rattle.codec.specs.Readings.{letter-of, choose, read-as, read-line, reading, to-group, to-symbol, to-open, to-new, to-change, to-cancel, to-block, to-unblock, to-quote, to-fill, to-reduction, to-cancel-refused};
+ghost use Rattle.codec.specs.Readings.{letter-of, read-as, read-line, reading, to-group, to-symbol, to-open, to-new, to-change, to-cancel, to-block, to-unblock, to-quote, to-fill, to-reduction, to-cancel-refused};
 ghost use Rattle.codec.specs.Writing.{fields-of, record-line};
 ghost use Rattle.fields.specs.Out.{out, put-fields, put-line, left, wrote};
 use fields::Place;
@@ -86,7 +87,7 @@ pub enum Reading {
 
 // The reading, if its last field ends before the line's last byte.
 fn whole(r: Reading, to: usize, line: &[u8]) -> Reading
-    ensures { λ w. ⌜ w ≡ choose (eqb (length (now (line .entry)) - to) 1) r Reading.Broken ⌝ }
+    ensures { λ w. ⌜ w ≡ cond (eqb (length (now (line .entry)) - to) 1) r Reading.Broken ⌝ }
 {
     if line.len() <= to {
         return Reading::Broken;

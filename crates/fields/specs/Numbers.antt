@@ -1,6 +1,6 @@
--- `digits` and `number-of` are inverse up to the ceiling, and a greater number has no fewer digits.
+-- `digits` and `number-of` are inverse up to the ceiling.
 use mathlib.Core.Path.{_≡_, refl, sym, _∙_}
-use mathlib.Core.Bool.{Bool, true, false}
+use mathlib.Core.Bool.{Bool, true, false, cond}
 use mathlib.Core.Logic.{_⊎_, inl, inr, ⊎-elim}
 use mathlib.Core.List.{List, [], _∷_, _++_, foldl, foldl-append, append-assoc, append-nil}
 use Prim.Native.Nat.{ℕ, zero, suc, _+_, _-_, _*_, _/_, _%_, _<_, _≤_}
@@ -46,15 +46,15 @@ digits-more zero h = absurd (omega arith)
 digits-more (suc n) h = rw (le-ltb (suc n) 10 h, fuel n (suc n / 10) (suc n / 10) (omega arith) (omega arith))
 
 -- a further digit, as a sum
-pub digits-snoc : (v d : ℕ) → 0 < v → 48 ≤ d → d ≤ 57 → digits (v * 10 + (d - 48)) ≡ digits v ++ (d ∷ [])
+digits-snoc : (v d : ℕ) → 0 < v → 48 ≤ d → d ≤ 57 → digits (v * 10 + (d - 48)) ≡ digits v ++ (d ∷ [])
 digits-snoc v d p lo hi =
     let n = v * 10 + (d - 48) in
     let q : n / 10 ≡ v = omega arith in
     let r : 48 + n % 10 ≡ d = omega arith in
     digits-more n (omega arith) ∙ rw (q, r)
 
--- what a digit-step makes of a number: `bad`, or one digit more
-pub step-cases : (v d : ℕ) → 0 < v → v < empty → (digit-step v d ≡ bad) ⊎ ((digit-step v d ≡ v * 10 + (d - 48)) × (48 ≤ d) × (d ≤ 57) × (v ≤ 400_000_000_000_000_000))
+-- what a step makes of a number: `bad`, or one digit more
+step-cases : (v d : ℕ) → 0 < v → v < empty → (digit-step v d ≡ bad) ⊎ ((digit-step v d ≡ v * 10 + (d - 48)) × (48 ≤ d) × (d ≤ 57) × (v ≤ 400_000_000_000_000_000))
 unfolding digit-step
 step-cases v d p q =
     let ne : v ≡ empty → ⊥ = omega arith in
@@ -67,38 +67,29 @@ step-cases v d p q =
     (below 57 d))
     (below d 48)
 
--- `bad` stays, and so a number that is none is above the ceiling
-pub step-bad : (d : ℕ) → digit-step bad d ≡ bad
+-- where no digit may follow, nothing does: after `bad`, and after a leading zero
+step-stuck : (v d : ℕ) → cond (eqb v empty) (d - 48) (cond (eqb v 0) bad (cond (ltb 400_000_000_000_000_000 v) bad (v * 10 + (d - 48)))) ≡ bad → digit-step v d ≡ bad
 unfolding digit-step
-step-bad d =
-    ⊎-elim (λ a. rw (lt-ltb d 48 a))
-    (λ a. ⊎-elim (λ b. rw (le-ltb d 48 a, lt-ltb 57 d b)) (λ b. rw (le-ltb d 48 a, le-ltb 57 d b)) (below 57 d))
-    (below d 48)
+step-stuck v d h =
+    ⊎-elim (λ a. rw (lt-ltb d 48 a)) (λ a. ⊎-elim (λ b. rw (le-ltb d 48 a, lt-ltb 57 d b)) (λ b. rw (le-ltb d 48 a, le-ltb 57 d b) h) (below 57 d)) (below d 48)
 
-pub step-zero : (d : ℕ) → digit-step 0 d ≡ bad
-unfolding digit-step
-step-zero d =
-    ⊎-elim (λ a. rw (lt-ltb d 48 a))
-    (λ a. ⊎-elim (λ b. rw (le-ltb d 48 a, lt-ltb 57 d b)) (λ b. rw (le-ltb d 48 a, le-ltb 57 d b)) (below 57 d))
-    (below d 48)
-
-pub step-empty : (d : ℕ) → (digit-step empty d ≡ bad) ⊎ ((digit-step empty d ≡ d - 48) × (48 ≤ d) × (d ≤ 57))
+step-empty : (d : ℕ) → (digit-step empty d ≡ bad) ⊎ ((digit-step empty d ≡ d - 48) × (48 ≤ d) × (d ≤ 57))
 unfolding digit-step
 step-empty d =
     ⊎-elim (λ a. inl (rw (lt-ltb d 48 a)))
     (λ a. ⊎-elim (λ b. inl (rw (le-ltb d 48 a, lt-ltb 57 d b))) (λ b. inr (rw (le-ltb d 48 a, le-ltb 57 d b), a, b)) (below 57 d))
     (below d 48)
 
-pub bad-stays : (ds : List ℕ) → foldl digit-step bad ds ≡ bad
+bad-stays : (ds : List ℕ) → foldl digit-step bad ds ≡ bad
 bad-stays [] = refl
-bad-stays (d ∷ ds) = rw (step-bad d) (bad-stays ds)
+bad-stays (d ∷ ds) = rw (step-stuck bad d refl) (bad-stays ds)
 
 -- no list of digits ends in a number once it is `bad`
 pub not-bad : (ds : List ℕ) (v : ℕ) → v ≡ bad → foldl digit-step v ds ≤ ceiling → ⊥
 not-bad ds v e h = let g : bad ≤ ceiling = rw (e, bad-stays ds) at h in omega arith
 
 -- the digits that are read on are the digits of the number, after those of the number so far
-pub digits-on : (ds : List ℕ) (v : ℕ) → 0 < v → v < empty → foldl digit-step v ds ≤ ceiling → digits (foldl digit-step v ds) ≡ digits v ++ ds
+digits-on : (ds : List ℕ) (v : ℕ) → 0 < v → v < empty → foldl digit-step v ds ≤ ceiling → digits (foldl digit-step v ds) ≡ digits v ++ ds
 digits-on [] v p q h = sym (append-nil (digits v))
 digits-on (d ∷ ds) v p q h =
     ⊎-elim (λ e. absurd (not-bad ds (digit-step v d) e h))
@@ -120,16 +111,16 @@ digits-number (d ∷ ds) h =
   where
     zero-first : (ds : List ℕ) (x : ℕ) → x ≡ 0 → foldl digit-step x ds ≤ ceiling → digits (foldl digit-step x ds) ≡ (48 + x) ∷ ds
     zero-first [] x z h = digits-small x (omega arith)
-    zero-first (y ∷ ys) x z h = absurd (not-bad ys (digit-step x y) (rw z (step-zero y)) h)
+    zero-first (y ∷ ys) x z h = absurd (not-bad ys (digit-step x y) (rw z (step-stuck 0 y refl)) h)
 
-pub step-digit : (v x : ℕ) → 0 < v → v ≤ 400_000_000_000_000_000 → x < 10 → digit-step v (48 + x) ≡ v * 10 + x
+step-digit : (v x : ℕ) → 0 < v → v ≤ 400_000_000_000_000_000 → x < 10 → digit-step v (48 + x) ≡ v * 10 + x
 unfolding digit-step
 step-digit v x p q h =
     let ne : v ≡ empty → ⊥ = omega arith in
     let nz : v ≡ 0 → ⊥ = omega arith in
     rw (le-ltb (48 + x) 48 (omega arith), le-ltb 57 (48 + x) (omega arith), ne-eqb v empty ne, ne-eqb v 0 nz, le-ltb 400_000_000_000_000_000 v q) (omega arith)
 
-pub step-first : (x : ℕ) → x < 10 → digit-step empty (48 + x) ≡ x
+step-first : (x : ℕ) → x < 10 → digit-step empty (48 + x) ≡ x
 unfolding digit-step
 step-first x h = rw (le-ltb (48 + x) 48 (omega arith), le-ltb 57 (48 + x) (omega arith)) (omega arith)
 

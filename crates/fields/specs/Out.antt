@@ -1,6 +1,6 @@
 -- Writing into a buffer at a place. A byte that has no room changes nothing and sets the place past the end, from where no byte has room.
 use Prim.Native.Nat.{ℕ, _+_}
-use mathlib.Core.Bool.{Bool, true, false, cond, _&&_}
+use mathlib.Core.Bool.{cond, _&&_}
 use mathlib.Core.List.{List, [], _∷_, _++_, foldl}
 use lib.ListN.{length, take, drop, set}
 use lib.Dec.{ltb, leb}
@@ -29,19 +29,15 @@ pub record Left : Type 0 where
 abbrev pub left : List ℕ → Written → Left
 left b w = record { buffer = b; said = w }
 
-unfoldable pub choose : Bool → Left → Left → Left
-choose true a b = a
-choose false a b = b
-
 -- the first n bytes of a list, put before what stands past them in the buffer; nothing where one of the two is shorter
 unfoldable pub handed : List ℕ → ℕ → List ℕ → Left
-handed d n b = choose (leb n (length d) && leb n (length b)) (left (take n d ++ drop n b) (Bytes n)) (left b NoRoom)
+handed d n b = cond (leb n (length d) && leb n (length b)) (left (take n d ++ drop n b) (Bytes n)) (left b NoRoom)
 
 -- a line of at most so many bytes, written whole into the buffer or not at all
 unfoldable pub wrote : ℕ → List ℕ → List ℕ → Left
-wrote most cs b = choose (leb (length cs) most && leb (length cs) (length b)) (left (cs ++ drop (length cs) b) (Bytes (length cs))) (left b NoRoom)
+wrote most cs b = cond (leb (length cs) most && leb (length cs) (length b)) (left (cs ++ drop (length cs) b) (Bytes (length cs))) (left b NoRoom)
 
--- document 01's number for what a writer says: 21 where it had no room
+-- the number under which document 01 refuses a buffer, for what a writer says. The gate tests it before anything is judged
 abbrev pub room-number : Written → ℕ
 room-number (Bytes n) = 0
 room-number NoRoom = 21

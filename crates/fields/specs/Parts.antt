@@ -30,6 +30,11 @@ blank (number low high n) = number low high 0
 unfoldable pub stretch : List ℕ → ℕ → ℕ → List ℕ
 stretch l from to = take (to - from) (drop from l)
 
+-- the bytes of a place
+abbrev pub said : List ℕ → Place → List ℕ
+said l p = stretch l (p .from) (p .to)
+
+-- a byte that ends a field
 abbrev pub ends : ℕ → Bool
 ends c = eqb c 9 || eqb c 10
 

@@ -1,6 +1,6 @@
 -- What putting bytes leaves: the bytes at their place and all else as it was, or a place past the end.
 use mathlib.Core.Path.{_≡_, refl, sym, ap, _∙_}
-use mathlib.Core.Bool.{_&&_}
+use mathlib.Core.Bool.{cond, _&&_}
 use mathlib.Core.List.{List, [], _∷_, _++_, foldl-append, append-assoc}
 use mathlib.Core.Logic.{⊎-elim}
 use Prim.Native.Nat.{ℕ, suc, _+_, _-_, _<_, _≤_}
@@ -13,7 +13,7 @@ use lib.Seq.{take-suc-set, drop-set-lt, take-append-seam}
 use Rattle.laws.specs.Tests.{on}
 use borrow.Author.Tests.{lt-ltb, le-ltb, lt-leb, le-leb}
 use Rattle.fields.specs.Series.{tails}
-use Rattle.fields.specs.Out.{Out, out, put-byte, puts, put-fields, put-line, left, choose, handed, wrote, room-number}
+use Rattle.fields.specs.Out.{Out, out, put-byte, puts, put-fields, put-line, left, handed, wrote, room-number}
 use Rattle.fields.specs.declared.Written.the-variants.{Bytes, NoRoom}
 use Rattle.fields.specs.Numbers.{below}
 
@@ -57,7 +57,7 @@ put-line-is s k fs = put-fields-is fs (puts s (k ∷ [])) ∙ sym (puts-then s (
 
 -- a line that is put into memory of its own and handed over from there is written whole or not at all
 pub staged : (cs z d b : List ℕ) (n : ℕ) → out d n ≡ puts (out z 0) cs → handed d n b ≡ wrote (length z) cs b
-unfolding handed wrote choose
+unfolding handed wrote
 staged cs z d b n e = ⊎-elim full room (below (length z) (length cs))
   where
     full : length z < length cs → handed d n b ≡ wrote (length z) cs b
@@ -80,11 +80,11 @@ staged-line k fs z d b n e = staged (k ∷ tails fs) z d b n (e ∙ put-line-is 
 
 -- THEOREM. A writer that says 21 leaves the buffer as it was
 pub no-room : (most : ℕ) (cs b : List ℕ) → room-number (wrote most cs b .said) ≡ 21 → wrote most cs b .buffer ≡ b
-unfolding wrote choose
-no-room most cs b = on (λ t. room-number (choose t (left (cs ++ drop (length cs) b) (Bytes (length cs))) (left b NoRoom) .said) ≡ 21 → choose t (left (cs ++ drop (length cs) b) (Bytes (length cs))) (left b NoRoom) .buffer ≡ b)
+unfolding wrote
+no-room most cs b = on (λ t. room-number (cond t (left (cs ++ drop (length cs) b) (Bytes (length cs))) (left b NoRoom) .said) ≡ 21 → cond t (left (cs ++ drop (length cs) b) (Bytes (length cs))) (left b NoRoom) .buffer ≡ b)
     (leb (length cs) most && leb (length cs) (length b)) (λ e h. absurd (omega arith)) (λ e h. refl)
 
 -- THEOREM. With room it does not say so: the line stands at the buffer's start, and what is past the line stays
 pub room : (most : ℕ) (cs b : List ℕ) → length cs ≤ most → length cs ≤ length b → wrote most cs b ≡ left (cs ++ drop (length cs) b) (Bytes (length cs))
-unfolding wrote choose
+unfolding wrote
 room most cs b h k = rw (le-leb (length cs) most h, le-leb (length cs) (length b) k)

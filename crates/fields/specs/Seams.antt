@@ -1,5 +1,5 @@
 -- What stands around a field: the tab before it, the tab or LF after it, and that it lies within the line.
-use mathlib.Core.Path.{_≡_, refl, sym, _∙_}
+use mathlib.Core.Path.{_≡_, refl, sym, _∙_, subst}
 use mathlib.Core.Bool.{Bool, true, false, cond, _&&_, and-eq-true-iff}
 use mathlib.Core.Logic.{_⊎_, ⊎-elim}
 use mathlib.Core.List.{List, [], _∷_, _++_}
@@ -13,7 +13,7 @@ use borrow.Author.Tests.{leb-true, ne-eqb, eqb-true}
 use Rattle.laws.specs.Tests.{on, split}
 use Rattle.rulebook.specs.Names.{Ident}
 use Rattle.rulebook.specs.Lines.{ceiling, text, buy, side, yes-no}
-use Rattle.fields.specs.Digits.{empty, number-of}
+use Rattle.fields.specs.Digits.{number-of}
 use Rattle.fields.specs.Parts.{blank, stretch, ends, span, field-at, takes, has-form, form, ended}
 use Rattle.fields.specs.Numbers.{below}
 
@@ -31,8 +31,12 @@ pub field-none : (l : List ℕ) (at : ℕ) → eqb (getD l at 0) 9 ≡ false →
 unfolding field-at
 field-none l at e = rw e
 
+-- so where something is said of a field that is not true of an empty one, a tab stands before it
+pub tab-by : (P : List ℕ → Type 0) (l : List ℕ) (at : ℕ) → P (field-at l at) → (P [] → ⊥) → getD l at 0 ≡ 9
+tab-by P l at h no-empty = eqb-true (getD l at 0) 9 (on (λ b. b ≡ true) (eqb (getD l at 0) 9) (λ e. refl) (λ e. absurd (no-empty (subst P (field-none l at e) h))))
+
 pub field-tab : (l : List ℕ) (at : ℕ) → 1 ≤ length (field-at l at) → getD l at 0 ≡ 9
-field-tab l at h = eqb-true (getD l at 0) 9 (on (λ b. b ≡ true) (eqb (getD l at 0) 9) (λ e. refl) (λ e. let z : 1 ≤ 0 = rw (field-none l at e) at h in absurd (omega arith)))
+field-tab l at h = tab-by (λ f. 1 ≤ length f) l at h (λ z. omega arith)
 
 pub field-is : (l : List ℕ) (at : ℕ) → getD l at 0 ≡ 9 → field-at l at ≡ take (span (drop (at + 1) l)) (drop (at + 1) l)
 unfolding field-at stretch
@@ -63,7 +67,7 @@ text-tab least most t x l at h ok = field-tab l at (omega (arith, leb-true least
 
 pub number-tab : (l : List ℕ) (at : ℕ) → number-of (field-at l at) ≤ ceiling → getD l at 0 ≡ 9
 unfolding number-of
-number-tab l at h = eqb-true (getD l at 0) 9 (on (λ b. b ≡ true) (eqb (getD l at 0) 9) (λ e. refl) (λ e. let z : empty ≤ ceiling = rw (field-none l at e) at h in absurd (omega arith)))
+number-tab l at h = tab-by (λ f. number-of f ≤ ceiling) l at h (λ z. omega arith)
 
 -- the forms of letters
 pub letter-form : (k : ℕ) (f : List ℕ) → 2 ≤ k → has-form (form k) f ≡ (eqb (length f) 1 && takes (form k) (getD f 0 0))

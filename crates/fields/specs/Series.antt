@@ -7,7 +7,7 @@ use lib.ListN.{getD}
 use lib.Dec.{eqb}
 use Rattle.rulebook.specs.Lines.{Side, buy, sell, short, exempt, Field, text, letter, number}
 use Rattle.fields.specs.Digits.{digits, number-of}
-use Rattle.fields.specs.Parts.{stretch, field-at, end-at, text-at}
+use Rattle.fields.specs.Parts.{said, field-at, end-at, text-at}
 use Rattle.fields.specs.declared.Place.{Place}
 
 -- what a field says: its place where it is a text, its number or letter where it is one
@@ -35,7 +35,7 @@ end-of (t ∷ ts) l at = end-of ts l (end-at t l at)
 
 -- a value as its field is written: the stretch of the line, the letter, the number's digits
 abbrev pub bytes-of : Field → List ℕ → Value → List ℕ
-bytes-of (text least most t x) l v = stretch l (v .place .from) (v .place .to)
+bytes-of (text least most t x) l v = said l (v .place)
 bytes-of (letter set c) l v = v .value ∷ []
 bytes-of (number low high n) l v = digits (v .value)
 

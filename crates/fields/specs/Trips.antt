@@ -14,11 +14,11 @@ use Rattle.laws.specs.Tables.{All, Each}
 use Rattle.rulebook.specs.Names.{word, Ident, ident-of}
 use Rattle.rulebook.specs.Lines.{ceiling, Field, text, letter, number}
 use Rattle.fields.specs.Digits.{digit-step, number-of, empty}
-use Rattle.fields.specs.Parts.{blank, stretch, ends, span, field-at, takes, every, has-form, end-at, text-at}
+use Rattle.fields.specs.Parts.{blank, stretch, said, ends, span, field-at, takes, every, has-form, end-at, text-at}
 use Rattle.fields.specs.Series.{Value, value-of, values, end-of, bytes-of, all-bytes, tails}
 use Rattle.fields.specs.Forms.{Says}
 use Rattle.fields.specs.Numbers.{digits-number, number-digits, not-bad, alike}
-use Rattle.fields.specs.Seams.{field-none, field-stretch, seam}
+use Rattle.fields.specs.Seams.{tab-by, field-stretch, seam}
 
 -- a form that takes neither tab nor LF, no empty field, and no number above the ceiling
 abbrev pub filled : Field → Bool
@@ -62,7 +62,7 @@ none-has (number low high n) g =
 
 -- so a field that has its form has a tab before it
 tab-of : (t : Field) (l : List ℕ) (at : ℕ) → good t ≡ true → has-form t (field-at l at) ≡ true → getD l at 0 ≡ 9
-tab-of t l at g ok = eqb-true (getD l at 0) 9 (on (λ b. b ≡ true) (eqb (getD l at 0) 9) (λ e. refl) (λ e. absurd (false≢true (sym (none-has t g) ∙ rw (field-none l at e) at ok))))
+tab-of t l at g ok = tab-by (λ f. has-form t f ≡ true) l at ok (λ z. false≢true (sym (none-has t g) ∙ z))
 
 one-byte : (f : List ℕ) → eqb (length f) 1 ≡ true → getD f 0 0 ∷ [] ≡ f
 one-byte [] h = absurd (false≢true h)
@@ -117,7 +117,7 @@ end-not t l at ok = rw ok
 
 -- a value that its form takes
 abbrev pub Fit : List ℕ → Field → Value → Type 0
-Fit l (text least most t x) v = has-form (text least most t x) (stretch l (v .place .from) (v .place .to)) ≡ true
+Fit l (text least most t x) v = has-form (text least most t x) (said l (v .place)) ≡ true
 Fit l (letter set c) v = takes (letter set c) (v .value) ≡ true
 Fit l (number low high n) v = (low ≤ v .value) × (v .value ≤ high)
 
@@ -207,7 +207,7 @@ field-written pre f fs l h q =
 
 -- a value as a field has it
 abbrev pub Holds : List ℕ → Field → Value → Type 0
-Holds l (text least most t x) v = (ident-of (stretch l (v .place .from) (v .place .to)) ≡ x) × (most ≤ 8 → word (stretch l (v .place .from) (v .place .to)) ≡ x .head)
+Holds l (text least most t x) v = (ident-of (said l (v .place)) ≡ x) × (most ≤ 8 → word (said l (v .place)) ≡ x .head)
 Holds l (letter set c) v = v .value ≡ c
 Holds l (number low high n) v = v .value ≡ n
 

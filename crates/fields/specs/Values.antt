@@ -6,14 +6,15 @@ use mathlib.Core.List.{List, [], _∷_}
 use Prim.Native.Nat.{ℕ, _≤_}
 use Prim.Native.Char.{code}
 use native.Mathlib.Omega.{arith}
-use lib.Dec.{leb, eqb}
+use lib.Dec.{eqb}
 use lib.ListN.{length, drop-of-length-le}
 use lib.Seq.{take-all}
-use borrow.Author.Tests.{leb-true, eqb-true}
+use borrow.Author.Tests.{eqb-true}
 use Rattle.laws.specs.Tests.{on, is-none}
 use Rattle.laws.specs.Tables.{find, All, all-map, Each}
 use Rattle.rulebook.specs.Names.{bytes, word, ident-of, mpid-of}
 use Rattle.rulebook.specs.Lines.{Side, buy, sell, short, exempt, side-letter, Field, text, letter, number, Fits, from-to, identifier, mpid, side, yes-no}
+use Rattle.rulebook.specs.Cases.{in-range}
 use Rattle.fields.specs.Parts.{unnamed, unlisted, blank, takes, every, has-form}
 use Rattle.fields.specs.Series.{side-of}
 use Rattle.fields.specs.Forms.{Says}
@@ -64,9 +65,6 @@ yes-no-told true c e = rw e
 yes-no-told false c e = rw e
 
 -- ── texts are kept whole in words ──
-in-range : (low high c : ℕ) → from-to low high c ≡ true → (low ≤ c) × (c ≤ high)
-in-range low high c h = let w = both {a = leb low c} h in (leb-true low c (w .0), leb-true c high (w .1))
-
 abbrev pub Packs : Field → Type 0
 Packs (text least most t x) = (c : ℕ) → t c ≡ true → Solid c
 Packs (letter set c) = Unit {0}

@@ -7,7 +7,7 @@ ghost use lib.Dec.{eqb};
 ghost use lib.ListN.{length, take, drop, getD};
 ghost use Rattle.rulebook.specs.Lines.{ceiling, text, letter, number, buy, identifier, mpid, serial, side, size, price, quoted, limit, yes-no};
 ghost use Rattle.fields.specs.Digits.{digits, digit-step, number-of};
-ghost use Rattle.fields.specs.Parts.{unnamed, unlisted, blank, stretch, span, ends, field-at, takes, every, has-form, text-at, number-at, letter-at, form, ended};
+ghost use Rattle.fields.specs.Parts.{unnamed, unlisted, blank, said, span, ends, field-at, takes, every, has-form, text-at, number-at, letter-at, form, ended};
 ghost use Rattle.fields.specs.Out.{out, puts, left, handed};
 
 // A stretch of a line. It ends past the line where the field has not its form.
@@ -147,7 +147,7 @@ pub fn field(line: &[u8], at: usize) -> &[u8]
 
 // A stretch of the line, as far as the line goes.
 pub fn part(line: &[u8], place: Place) -> &[u8]
-    ensures { λ r. ⌜ now r ≡ stretch (now (line .entry)) (place .from) (place .to) ⌝ }
+    ensures { λ r. ⌜ now r ≡ said (now (line .entry)) place ⌝ }
 {
     let from = place.from;
     let to = place.to;
@@ -440,7 +440,7 @@ fn put_digits(to: &mut [u8], at: usize, n: u64) -> usize
 
 // A tab and a stretch of the line.
 pub fn put_text(to: &mut [u8], at: usize, line: &[u8], place: Place) -> usize
-    ensures { λ r. ⌜ out (now (to .exit)) r ≡ puts (out (now (to .entry)) at) (9 ∷ stretch (now (line .entry)) (place .from) (place .to)) ⌝ }
+    ensures { λ r. ⌜ out (now (to .exit)) r ≡ puts (out (now (to .entry)) at) (9 ∷ said (now (line .entry)) place) ⌝ }
 {
     let e = put(to, at, b'\t');
     put_all(to, e, part(line, place))
@@ -464,7 +464,7 @@ pub fn put_letter(to: &mut [u8], at: usize, b: u8) -> usize
 
 // Two stretches of the line, each after a tab.
 pub fn put_texts(to: &mut [u8], at: usize, line: &[u8], a: Place, b: Place) -> usize
-    ensures { λ r. ⌜ out (now (to .exit)) r ≡ puts (puts (out (now (to .entry)) at) (9 ∷ stretch (now (line .entry)) (a .from) (a .to))) (9 ∷ stretch (now (line .entry)) (b .from) (b .to)) ⌝ }
+    ensures { λ r. ⌜ out (now (to .exit)) r ≡ puts (puts (out (now (to .entry)) at) (9 ∷ said (now (line .entry)) a)) (9 ∷ said (now (line .entry)) b) ⌝ }
 {
     let e = put_text(to, at, line, a);
     put_text(to, e, line, b)

@@ -5,24 +5,20 @@ use denote.Ref.{now}
 use lib.ListN.{length}
 use borrow.Author.Tests.{eq-eqb, ne-eqb}
 use native.Mathlib.Omega.{arith}
-use Rattle.codec.specs.Readings.{choose}
 use borrow.Author.Needs.{needs}
 use Rattle.codec.proofs.whole.Statement.{statement}
 use Rattle.codec.proofs.whole.Tie as tie
 
 returns : tie.Need-returns
-unfolding choose
 returns c = let z : length (now (c .before .args .line)) - c .before .args .to ≡ 0 = omega arith in simp z
 
 sub-if2 : tie.Need-sub-if2
 sub-if2 c = search needs
 
 returns-2 : tie.Need-returns-2
-unfolding choose
 returns-2 c = simp (eq-eqb _ 1 (c .if2 .taken))
 
 returns-3 : tie.Need-returns-3
-unfolding choose
 returns-3 c = simp (ne-eqb _ 1 (c .if2 .left))
 
 pub whole-spec : {M : Type 1} → statement M

@@ -6,17 +6,17 @@ use lib.ListN.{length, take, length-take}
 use lib.Seq.{take-all}
 use borrow.Author.Tests.{lt-leb, le-leb}
 use native.Mathlib.Omega.{arith}
-use Rattle.fields.specs.Out.{handed, choose}
+use Rattle.fields.specs.Out.{handed}
 use borrow.Author.Needs.{needs}
 use Rattle.fields.proofs.hand_over.Statement.{statement}
 use Rattle.fields.proofs.hand_over.Tie as tie
 
 returns : tie.Need-returns
-unfolding handed choose
+unfolding handed
 returns c = simp (lt-leb _ _ (c .if1 .taken))
 
 returns-2 : tie.Need-returns-2
-unfolding handed choose
+unfolding handed
 returns-2 c = simp (le-leb _ _ (c .before .if1 .left), lt-leb _ _ (c .if2 .taken))
 
 sub-copy : tie.Need-sub-copy
@@ -35,7 +35,7 @@ same-length : tie.Need-same-length
 same-length c = search needs
 
 returns-3 : tie.Need-returns-3
-unfolding handed choose
+unfolding handed
 returns-3 c =
     let f = now (c .before .before .before .before .before .before .before .before .before .args .from) in
     let n = c .before .before .before .before .before .before .before .before .before .args .n in
