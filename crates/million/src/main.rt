@@ -6,24 +6,13 @@ use libc::STDOUT_FILENO;
 
 const TURNS: u64 = 1_000_000;
 
-fn same(a: &[u8], b: &[u8]) -> bool {
-    let mut i = 0;
-    while i < a.len() {
-        if a[i] != fields::byte_at(b, i) {
-            return false;
-        }
-        i += 1;
-    }
-    a.len() == b.len()
-}
-
 // Whether a line that is read and written back is the same.
 fn comes_back(line: &[u8]) -> bool {
     let mut back = [0u8; 161];
     let Written::Bytes(count) = codec::write_record(line, codec::read(line), &mut back) else {
         return false;
     };
-    same(line, fields::part(&back, Place { from: 0, to: count }))
+    check::same(line, fields::part(&back, Place { from: 0, to: count }))
 }
 
 // The same of the line whose turn it is.

@@ -153,14 +153,21 @@ fn says_no_room(said: Written) -> bool {
 
 // Whether two buffers hold the same bytes from a place on.
 fn same_from(at: usize, a: &[u8], b: &[u8]) -> bool {
-    let mut i = at;
-    while i < a.len() {
-        if a[i] != fields::byte_at(b, i) {
-            return false;
-        }
-        i += 1;
-    }
-    a.len() == b.len()
+    let rest_of_a = fields::part(
+        a,
+        Place {
+            from: at,
+            to: a.len(),
+        },
+    );
+    let rest_of_b = fields::part(
+        b,
+        Place {
+            from: at,
+            to: b.len(),
+        },
+    );
+    check::same(rest_of_a, rest_of_b)
 }
 
 // Whether a text goes whole into room for it and for more, does not go into one byte less at all,
