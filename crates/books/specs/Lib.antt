@@ -1,2 +1,4 @@
 pub mod Layout
 pub mod View
+pub mod Writing
+pub mod Refining

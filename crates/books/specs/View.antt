@@ -4,7 +4,7 @@ use mathlib.Core.List.{List}
 use Prim.Native.Nat.{ℕ}
 use Prim.Native.Char.{code}
 use lib.Dec.{ltb, eqb}
-use Rattle.laws.specs.Numbered.{those, listed}
+use Rattle.laws.specs.Numbered.{those, numbered}
 use Rattle.laws.specs.Rows.{Row, Sheet, sheet}
 use Rattle.rulebook.specs.Names.{Ident, Key, Mpid, same-key}
 use Rattle.rulebook.specs.Lines.{Deal, new, change, cancel, block, unblock}
@@ -97,8 +97,8 @@ books-in room S = record {
   opened = flag (head-in S opened-at);
   last = head-in S last-at;
   room = room;
-  asked = listed (asked-of S) (head-in S places-at);
-  ledger = record { groups = listed (group-of S) (head-in S groups-at); symbols = listed (symbol-of S) (head-in S symbols-at); orders = orders-in S };
+  asked = numbered (asked-of S) (head-in S places-at);
+  ledger = record { groups = numbered (group-of S) (head-in S groups-at); symbols = numbered (symbol-of S) (head-in S symbols-at); orders = orders-in S };
 }
 
 -- the rows of the lent words, and the books that they say

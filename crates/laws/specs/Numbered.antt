@@ -131,8 +131,8 @@ module _ {A : Type 0} where
   those t f n = from t f 0 n
 
   -- f of every number below n
-  abbrev pub listed : (ℕ → A) → ℕ → List A
-  listed f n = those (λ i. true) f n
+  abbrev pub numbered : (ℕ → A) → ℕ → List A
+  numbered f n = those (λ i. true) f n
 
   -- ── lists that agree; one more number ──
   same-from : (t u : ℕ → Bool) (f g : ℕ → A) (i k : ℕ) → ((j : ℕ) → i ≤ j → j < i + k → (t j ≡ u j) × (f j ≡ g j)) → from t f i k ≡ from u g i k
@@ -162,9 +162,9 @@ module _ {A : Type 0} where
   length-from f i zero = refl
   length-from f i (suc k) = ap suc (length-from f (suc i) k)
 
-  pub length-listed : (f : ℕ → A) (n : ℕ) → length (listed f n) ≡ n
+  pub length-numbered : (f : ℕ → A) (n : ℕ) → length (numbered f n) ≡ n
   unfolding those
-  length-listed f n = length-from f 0 n
+  length-numbered f n = length-from f 0 n
 
   getElem-from : (f : ℕ → A) (i k j : ℕ) → getElem? (from (λ i. true) f i k) j ≡ cond (ltb j k) (some (f (i + j))) none
   getElem-from f i zero j = rw (le-ltb j 0 (omega arith))
@@ -172,9 +172,9 @@ module _ {A : Type 0} where
   getElem-from f i (suc k) (suc j) = getElem-from f (suc i) k j ∙ ap₂ {C = Option A} (λ b (l : ℕ). cond b (some (f l)) none) (ltb-suc j k) (omega arith)
 
   -- the entry at a place
-  pub getElem-listed : (f : ℕ → A) (n j : ℕ) → getElem? (listed f n) j ≡ cond (ltb j n) (some (f j)) none
+  pub getElem-numbered : (f : ℕ → A) (n j : ℕ) → getElem? (numbered f n) j ≡ cond (ltb j n) (some (f j)) none
   unfolding those
-  getElem-listed f n j = getElem-from f 0 n j ∙ ap (λ (l : ℕ). cond (ltb j n) (some (f l)) none) (omega arith)
+  getElem-numbered f n j = getElem-from f 0 n j ∙ ap (λ (l : ℕ). cond (ltb j n) (some (f l)) none) (omega arith)
 
   -- ── a rule of every entry, both ways ──
   all-from : (P : A → Type 0) (t : ℕ → Bool) (f : ℕ → A) (i k : ℕ) → ((j : ℕ) → i ≤ j → j < i + k → t j ≡ true → P (f j)) → All P (from t f i k)
@@ -245,9 +245,9 @@ module _ {A : Type 0} where
   distinct-from t f i zero h = tt
   distinct-from t f i (suc k) h = (none-find (t (f i)) f (suc i) k (λ j a b. h i j (omega arith) (omega arith) (omega arith)), distinct-from t f (suc i) k (λ p q a b c. h p q (omega arith) b (omega arith)))
 
-  pub distinct-listed : (t : A → A → Bool) (f : ℕ → A) (n : ℕ) → ((p q : ℕ) → p < q → q < n → t (f p) (f q) ≡ false) → Distinct t (listed f n)
+  pub distinct-numbered : (t : A → A → Bool) (f : ℕ → A) (n : ℕ) → ((p q : ℕ) → p < q → q < n → t (f p) (f q) ≡ false) → Distinct t (numbered f n)
   unfolding those
-  distinct-listed t f n h = distinct-from t f 0 n (λ p q a b c. h p q b (omega arith))
+  distinct-numbered t f n h = distinct-from t f 0 n (λ p q a b c. h p q b (omega arith))
 
   apart-from : (t : A → A → Bool) (f : ℕ → A) (i k : ℕ) → Distinct t (from (λ i. true) f i k) → (p q : ℕ) → i ≤ p → p < q → q < i + k → t (f p) (f q) ≡ false
   apart-from t f i zero d p q a b c = absurd (omega arith)
@@ -256,9 +256,9 @@ module _ {A : Type 0} where
     | no nh ↦ subst (λ n. t (f n) (f q) ≡ false) (let e : i ≡ p = omega arith in e) (find-none (t (f i)) f (suc i) k (d .0) q (omega arith) (omega arith))
   ]
 
-  pub listed-distinct : (t : A → A → Bool) (f : ℕ → A) (n : ℕ) → Distinct t (listed f n) → (p q : ℕ) → p < q → q < n → t (f p) (f q) ≡ false
+  pub numbered-distinct : (t : A → A → Bool) (f : ℕ → A) (n : ℕ) → Distinct t (numbered f n) → (p q : ℕ) → p < q → q < n → t (f p) (f q) ≡ false
   unfolding those
-  listed-distinct t f n d p q b c = apart-from t f 0 n d p q (omega arith) b (omega arith)
+  numbered-distinct t f n d p q b c = apart-from t f 0 n d p q (omega arith) b (omega arith)
 
 -- ── an entry renewed, where it stands ──
 module _ {A K : Type 0} (T : Table A K) (t : ℕ → Bool) (f g : ℕ → A) (y : A) where

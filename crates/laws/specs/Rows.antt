@@ -1,7 +1,7 @@
 -- Tables of rows in a list of words: regions one after the other, their cells, and what a run of stores does to them.
 use mathlib.Core.Path.{_≡_, refl, sym, ap, _∙_, subst, fun-ext}
 use mathlib.Core.Bool.{true, false, _&&_, cond}
-use mathlib.Core.List.{List, [], _∷_}
+use mathlib.Core.List.{List, [], _∷_, _++_}
 use mathlib.Core.Logic.{_⊎_, inl, inr, ⊎-elim}
 use Prim.Native.Nat.{ℕ, zero, suc, _+_, _*_, _-_, _≤_, _<_}
 use native.Mathlib.Omega.{arith}
@@ -167,6 +167,31 @@ patched s S q j = cond (eqb (s .at) q && eqb (s .line) j) (patch (s .from) (s .w
 abbrev pub enter : List Store → Sheet → Sheet
 enter [] S = S
 enter (s ∷ ss) S = enter ss (patched s S)
+
+-- one row after stores
+abbrev pub row-after : List Store → ℕ → ℕ → Row → Row
+row-after [] q j r = r
+row-after (s ∷ ss) q j r = row-after ss q j (cond (eqb (s .at) q && eqb (s .line) j) (patch (s .from) (s .words) r) r)
+
+pub enter-row : (ss : List Store) (S : Sheet) (q j : ℕ) → enter ss S q j ≡ row-after ss q j (S q j)
+enter-row [] S q j = refl
+enter-row (s ∷ ss) S q j = enter-row ss (patched s S) q j
+
+pub row-append : (ss rest : List Store) (q j : ℕ) (r : Row) → row-after (ss ++ rest) q j r ≡ row-after rest q j (row-after ss q j r)
+row-append [] rest q j r = refl
+row-append (s ∷ ss) rest q j r = row-append ss rest q j (cond (eqb (s .at) q && eqb (s .line) j) (patch (s .from) (s .words) r) r)
+
+pub enter-append : (ss rest : List Store) (S : Sheet) → enter (ss ++ rest) S ≡ enter rest (enter ss S)
+enter-append [] rest S = refl
+enter-append (s ∷ ss) rest S = enter-append ss rest (patched s S)
+
+-- stores of other regions
+abbrev pub Away : ℕ → List Store → Type 0
+Away q ss = All (λ s. eqb (s .at) q ≡ false) ss
+
+pub row-away : (ss : List Store) (q j : ℕ) (r : Row) → Away q ss → row-after ss q j r ≡ r
+row-away [] q j r a = refl
+row-away (s ∷ ss) q j r a = rw (a .0) (row-away ss q j r (a .1))
 
 module _ (l : List Shape) where
   abbrev pub sheet : List ℕ → Sheet
