@@ -18,7 +18,7 @@ use Rattle.rulebook.specs.Lines.{Side, buy, sell, short, exempt, side-letter, D
 use Rattle.rulebook.specs.Kept.{Ticket, Figures, Order, Group, Symbol, Asked, Ledger, Books, by-mpid, by-id, by-key}
 use Rattle.rulebook.specs.Judging.{Deed, Edit, nothing, opened, listed, remembered, taken, enact, apply}
 use Rattle.fields.specs.Series.{side-of}
-use Rattle.books.specs.Layout.{heads, groups, symbols, keys, requests, orders, layout, least-words, room-for, room-of, opened-at, last-at, groups-at, symbols-at, places-at, open-buys-at, kind-at}
+use Rattle.books.specs.Layout.{heads, groups, symbols, keys, requests, orders, layout, least-words, place-words, room-for, room-of, opened-at, last-at, groups-at, symbols-at, places-at, open-buys-at, kind-at}
 use Rattle.books.specs.View.{flag, group-in, symbol-in, key-in, deal-in, asked-in, opens, order-in, head-in, group-of, symbol-of, asked-of, opens-of, order-of, orders-in, books-in, rows-of, view}
 use Rattle.books.specs.Writing.{bit, group-index, symbol-index, order-index, group-words, mark-words, key-words, Said, said, request-words, figure-words, new-figures, order-stores, open-stores, group-stores, symbol-stores, deed-stores, place-stores, stores, write}
 
@@ -434,10 +434,15 @@ pub record Counted (m : List ℕ) : Type 0 where
   pub few-groups : head-in (rows-of m) groups-at ≤ 64
   pub few-symbols : head-in (rows-of m) symbols-at ≤ 256
   pub few-places : head-in (rows-of m) places-at ≤ room-of m
+  pub whole : least-words + room-of m * place-words ≤ length m
+  pub most : room-of m ≤ 65_535
 
-pub room-fits : (n : ℕ) → least-words ≤ n → (extent (layout (room-for n)) ≤ n) × (room-for n ≤ 65_535)
+room-fits : (n : ℕ) → least-words ≤ n → (least-words + room-for n * place-words ≤ n) × (room-for n ≤ 65_535)
 unfolding room-for
 room-fits n h = (omega arith, omega arith)
+
+pub counted : (m : List ℕ) → least-words ≤ length m → head-in (rows-of m) groups-at ≤ 64 → head-in (rows-of m) symbols-at ≤ 256 → head-in (rows-of m) places-at ≤ room-of m → Counted m
+counted m l g s p = let r = room-fits (length m) l in record { long = l; few-groups = g; few-symbols = s; few-places = p; whole = r .0; most = r .1 }
 
 -- as many are listed as are counted
 counts : (room : ℕ) (S : Sheet) → (length (books-in room S .ledger .groups) ≡ head-in S groups-at) × (length (books-in room S .ledger .symbols) ≡ head-in S symbols-at) × (length (books-in room S .asked) ≡ head-in S places-at)
@@ -547,7 +552,7 @@ length-write e m = length-run (layout (room-of m)) (stores (rows-of m) e) m
 -- the rows after an edit
 pub write-shows : (m : List ℕ) → Counted m → (e : Edit) → Apt (view m) e → Shows (layout (room-of m)) (write e m) (enter (stores (rows-of m) e) (rows-of m))
 unfolding write
-write-shows m c e a = shown (layout (room-of m)) m (rows-of m) (stores (rows-of m) e) (room-fits (length m) (c .long) .0) (edit-fit m c e a) (λ q j h. refl)
+write-shows m c e a = shown (layout (room-of m)) m (rows-of m) (stores (rows-of m) e) (omega (arith, c .whole)) (edit-fit m c e a) (λ q j h. refl)
 
 -- THEOREM. The words after an edit say the books after it
 pub refines : (m : List ℕ) → Counted m → (e : Edit) → Apt (view m) e → view (write e m) ≡ apply e (view m)

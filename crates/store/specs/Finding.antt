@@ -1,0 +1,51 @@
+-- What the searches of the lent words find.
+use mathlib.Core.Path.{_≡_, refl, sym, _∙_}
+use mathlib.Core.Bool.{Bool, true, false, cond}
+use Prim.Native.Nat.{ℕ, _≤_, _<_}
+use native.Mathlib.Omega.{arith}
+use lib.Dec.{ltb}
+use borrow.Author.Tests.{lt-ltb, le-ltb}
+use Rattle.laws.specs.Numbered.{least, least-at, least-none}
+use Rattle.laws.specs.Rows.{Sheet}
+use Rattle.rulebook.specs.Names.{Mpid, Key, same-key}
+use Rattle.books.specs.Layout.{keys, places-at}
+use Rattle.books.specs.View.{head-in, key-in}
+use Rattle.store.specs.declared.Key.{Key as KeyWords}
+use Rattle.store.specs.declared.Found.{Found}
+use Rattle.store.specs.declared.Found.the-variants.{At, Free, Full}
+
+-- the MPID that a word is, and the key that four words are
+abbrev pub mpid-word : ℕ → Mpid
+mpid-word w = record { code = w }
+
+abbrev pub named-by : KeyWords → Key
+named-by k = record { owner = record { mpid = mpid-word (k .owner) }; name = record { head = k .head; middle = k .middle; tail = k .tail } }
+
+abbrev pub key-at : Sheet → ℕ → Key
+key-at S i = key-in (S keys i)
+
+unfoldable pub is-key : Key → Key → Bool
+is-key a b = same-key a b
+
+-- "A request whose MPID and identifier are already in the table": the first such place; else the first free one, where there is room
+unfoldable pub place-index : Sheet → Key → ℕ
+place-index S k = least (λ i. is-key k (key-at S i)) (head-in S places-at)
+
+unfoldable pub found-place : Sheet → ℕ → Key → Found
+found-place S room k = let n = head-in S places-at in cond (ltb (place-index S k) n) (At (place-index S k)) (cond (ltb n room) (Free n) Full)
+
+-- what the search has seen when it ends, and what it then answers
+module _ (S : Sheet) (room : ℕ) (k : Key) (i : ℕ) (before : (j : ℕ) → j < i → is-key k (key-at S j) ≡ false) where
+  pub found-at : i < head-in S places-at → is-key k (key-at S i) ≡ true → At i ≡ found-place S room k
+  unfolding found-place place-index
+  found-at lt e = let q = least-at (λ i. is-key k (key-at S i)) (head-in S places-at) i lt before e in sym (rw (q, lt-ltb i (head-in S places-at) lt) refl)
+
+  none-found : i ≡ head-in S places-at → found-place S room k ≡ cond (ltb (head-in S places-at) room) (Free (head-in S places-at)) Full
+  unfolding found-place place-index
+  none-found e = let q = least-none (λ i. is-key k (key-at S i)) (head-in S places-at) (λ j lt. before j (omega arith)) in rw (q, le-ltb (head-in S places-at) (head-in S places-at) (omega arith)) refl
+
+  pub found-free : i ≡ head-in S places-at → i < room → Free i ≡ found-place S room k
+  found-free e lt = rw e (sym (none-found e ∙ rw (lt-ltb (head-in S places-at) room (omega arith)) refl))
+
+  pub found-full : i ≡ head-in S places-at → room ≤ i → Full ≡ found-place S room k
+  found-full e le = sym (none-found e ∙ rw (le-ltb (head-in S places-at) room (omega arith)) refl)

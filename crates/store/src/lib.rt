@@ -1,0 +1,142 @@
+// The lent words, read and written: searches, a run of words stored, a fresh state, and the totals of a closing line.
+ghost use mathlib.Core.Path.{_≡_};
+ghost use mathlib.Core.Bool.{cond};
+ghost use Prim.Native.Nat.{ℕ, _+_, _≤_, _<_};
+ghost use lib.ListN.{length, replicate};
+ghost use lib.Seq.{sets};
+ghost use lib.Dec.{ltb};
+ghost use Rattle.books.specs.Layout.{least-words, room-for, room-of, places-at};
+ghost use Rattle.books.specs.View.{rows-of, head-in};
+ghost use Rattle.books.specs.Writing.{group-index, symbol-index, order-index};
+ghost use Rattle.books.specs.Refining.{Counted};
+ghost use Rattle.store.specs.Finding.{mpid-word, named-by, key-at, is-key, found-place};
+
+// A request's key: its owner's MPID, and the three words of its identifier.
+pub struct Key {
+    pub owner: u64,
+    pub head: u64,
+    pub middle: u64,
+    pub tail: u64,
+}
+
+// What the search of the table yields: the place that has the key, or the first free one, or that there is none.
+pub enum Found {
+    At(usize),
+    Free(usize),
+    Full,
+}
+
+// How many places the memory has room for: those that fit after groups and symbols, at most 65,535.
+pub fn room(words: usize) -> usize
+    ensures { λ r. ⌜ r ≡ room-for words ⌝ }
+{
+    if words < books::LEAST_WORDS {
+        return 0;
+    }
+    let places = (words - books::LEAST_WORDS) / books::PLACE_WORDS;
+    if places > books::MOST_PLACES {
+        return books::MOST_PLACES;
+    }
+    places
+}
+
+// The words stored from a place on, and nothing else.
+pub fn put_row(mem: &mut [u64], at: usize, words: &[u64])
+    requires { ⌜ at + length (now words) ≤ length (now mem) ⌝ }
+    ensures { λ _. ⌜ now (mem .exit) ≡ sets (now (mem .entry)) at (now (words .entry)) ⌝ }
+{
+    let mut k = 0;
+    while k < words.len() {
+        mem[at + k] = words[k];
+        k += 1;
+    }
+}
+
+// The first group with the MPID, or how many are listed where none has it.
+pub fn find_group(mem: &[u64], mpid: u64) -> usize
+    requires { ⌜ Counted (now mem) ⌝ }
+    ensures { λ r. ⌜ r ≡ group-index (rows-of (now (mem .entry))) (mpid-word mpid) ⌝ }
+{
+    let n = mem[books::GROUPS_LISTED] as usize;
+    let mut i = 0;
+    loop {
+        if i >= n {
+            break i;
+        }
+        if mpid == mem[books::GROUPS + i * books::GROUP_WORDS + books::GROUP_MPID] {
+            break i;
+        }
+        i += 1;
+    }
+}
+
+// The first symbol with the ID, or how many are listed where none has it.
+pub fn find_symbol(mem: &[u64], id: u64) -> usize
+    requires { ⌜ Counted (now mem) ⌝ }
+    ensures { λ r. ⌜ r ≡ symbol-index (rows-of (now (mem .entry))) id ⌝ }
+{
+    let n = mem[books::SYMBOLS_LISTED] as usize;
+    let mut i = 0;
+    loop {
+        if i >= n {
+            break i;
+        }
+        if id == mem[books::SYMBOLS + i * books::SYMBOL_WORDS + books::SYMBOL_ID] {
+            break i;
+        }
+        i += 1;
+    }
+}
+
+// The key of a place, copied out.
+fn key_of(mem: &[u64], i: usize) -> Key
+    requires { ⌜ Counted (now mem) ⌝ }
+    requires { ⌜ i < room-of (now mem) ⌝ }
+    ensures { λ r. ⌜ named-by r ≡ key-at (rows-of (now (mem .entry))) i ⌝ }
+{
+    let b = books::KEYS + i * books::KEY_WORDS;
+    Key {
+        owner: mem[b + books::OWNER],
+        head: mem[b + books::NAME],
+        middle: mem[b + books::NAME_MIDDLE],
+        tail: mem[b + books::NAME_TAIL],
+    }
+}
+
+// Whether two keys are the same.
+fn same_key(a: Key, b: Key) -> bool
+    ensures { λ r. ⌜ r ≡ is-key (named-by a) (named-by b) ⌝ }
+{
+    if a.owner != b.owner {
+        return false;
+    }
+    if a.head != b.head {
+        return false;
+    }
+    if a.middle != b.middle {
+        return false;
+    }
+    a.tail == b.tail
+}
+
+// The place with the key, or the first free one, or that the table is full.
+pub fn find_place(mem: &[u64], key: Key) -> Found
+    requires { ⌜ Counted (now mem) ⌝ }
+    ensures { λ r. ⌜ r ≡ found-place (rows-of (now (mem .entry))) (room-of (now (mem .entry))) (named-by key) ⌝ }
+{
+    let n = mem[books::PLACES_TAKEN] as usize;
+    let places = room(mem.len());
+    let mut i = 0;
+    loop {
+        if i >= n {
+            if i < places {
+                break Found::Free(i);
+            }
+            break Found::Full;
+        }
+        if same_key(key, key_of(mem, i)) {
+            break Found::At(i);
+        }
+        i += 1;
+    }
+}
