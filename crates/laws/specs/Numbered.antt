@@ -2,7 +2,7 @@
 use mathlib.Core.Path.{_≡_, refl, sym, ap, ap₂, _∙_, subst}
 use mathlib.Core.Bool.{Bool, true, false, not, _&&_, cond, false≢true, and-eq-true-iff}
 use mathlib.Core.Option.{Option, none, some, Option·none-ne-some, Option·some-injective}
-use mathlib.Core.List.{List, [], _∷_, _++_}
+use mathlib.Core.List.{List, [], _∷_, _++_, map}
 use Prim.Native.Nat.{ℕ, zero, suc, _+_, _≤_, _<_}
 use native.Mathlib.Omega.{arith}
 use native.Mathlib.Nat.{add-zero}
@@ -259,6 +259,15 @@ module _ {A : Type 0} where
   pub numbered-distinct : (t : A → A → Bool) (f : ℕ → A) (n : ℕ) → Distinct t (numbered f n) → (p q : ℕ) → p < q → q < n → t (f p) (f q) ≡ false
   unfolding those
   numbered-distinct t f n d p q b c = apart-from t f 0 n d p q (omega arith) b (omega arith)
+
+pub map-those : {A B : Type 0} (h : A → B) (t : ℕ → Bool) (f : ℕ → A) (n : ℕ) → map h (those t f n) ≡ those t (λ i. h (f i)) n
+unfolding those
+map-those h t f n = go 0 n
+  where
+    go : (i k : ℕ) → map h (from t f i k) ≡ from t (λ i. h (f i)) i k
+    go i zero = refl
+    go i (suc k) = on (λ b. map h (cond b (f i ∷ from t f (suc i) k) (from t f (suc i) k)) ≡ cond b (h (f i) ∷ from t (λ i. h (f i)) (suc i) k) (from t (λ i. h (f i)) (suc i) k)) (t i)
+        (λ e. ap (λ l. h (f i) ∷ l) (go (suc i) k)) (λ e. go (suc i) k)
 
 -- ── an entry renewed, where it stands ──
 module _ {A K : Type 0} (T : Table A K) (t : ℕ → Bool) (f g : ℕ → A) (y : A) where

@@ -212,7 +212,7 @@ tickets-apart [] d = tt
 tickets-apart (a ∷ l) d = let r = tickets-apart l (d .1) in
     tickets-cases (λ z. Distinct same-key (map key-of (z ++ tickets-in l))) a r (λ t p. (subst (λ k. find (same-key k) (map key-of (tickets-in l)) ≡ none) (sym p) (tickets-miss (a .request .key) l (d .0)), r))
 
-tickets-append : (l : List Asked) (a : Asked) → tickets-in (l ++ (a ∷ [])) ≡ tickets-in l ++ tickets-at a
+pub tickets-append : (l : List Asked) (a : Asked) → tickets-in (l ++ (a ∷ [])) ≡ tickets-in l ++ tickets-at a
 tickets-append [] a = append-nil (tickets-at a)
 tickets-append (x ∷ l) a = ap (λ z. tickets-at x ++ z) (tickets-append l a) ∙ sym (append-assoc (tickets-at x) (tickets-in l) (tickets-at a))
 
