@@ -1,0 +1,1 @@
+// Chains of the places of one slot. There is no function here yet.
