@@ -1,0 +1,52 @@
+-- The keys of the places, and a hash of them.
+use mathlib.Core.Path.{ap}
+use mathlib.Core.List.{List}
+use Prim.Native.Nat.{ℕ, _+_, _*_, _/_, _%_, _^_, _≤_, _<_}
+use native.Mathlib.Omega.{arith}
+use lib.ListN.{length}
+use Rattle.laws.specs.Rows.{Sheet}
+use Rattle.rulebook.specs.Names.{Key, key-exact}
+use Rattle.books.specs.Layout.{keys, least-words}
+use Rattle.books.specs.View.{key-in, same-place}
+use Rattle.chains.specs.Chain.{Alike}
+use Rattle.chains.specs.declared.Key.{Key as Words}
+
+-- the keys of the first n places are there
+pub record HasKeys (m : List ℕ) (n : ℕ) : Type 0 where
+  pub few : n ≤ 65_535
+  pub room : least-words + n * 4 ≤ length m
+
+-- the key of a place, and the key that the code copies out
+abbrev pub key-at : Sheet → ℕ → Key
+key-at S i = key-in (S keys i)
+
+abbrev pub key-of : Words → Key
+key-of k = record { owner = record { mpid = record { code = k .owner } }; name = record { head = k .head; middle = k .middle; tail = k .tail } }
+
+-- one past the largest half of a word, and the factors of the halves
+abbrev half : ℕ
+half = 4_294_967_296
+
+abbrev low-factor : ℕ
+low-factor = 2_246_822_519
+
+abbrev high-factor : ℕ
+high-factor = 1_597_334_677
+
+-- one word more into a hash: the halves of their sum, each by its factor
+unfoldable pub mixed : ℕ → ℕ → ℕ
+mixed h w = (h + w) % 2 ^ 64 % half * low-factor + (h + w) % 2 ^ 64 / half * high-factor
+
+pub halves-fit : {a b : ℕ} → a < half → b < half → a * low-factor + b * high-factor < 2 ^ 64
+halves-fit ha hb = omega arith
+
+-- any function of the key would do
+unfoldable pub hash-of : Key → ℕ
+hash-of k = mixed (mixed (mixed (mixed (mixed 0 (k .owner .mpid .code)) (k .name .head)) (k .name .middle)) (k .name .tail)) 0 / half
+
+abbrev pub hash-at : Sheet → ℕ → ℕ
+hash-at S i = hash-of (key-at S i)
+
+-- places of one key have one hash
+pub same-hash : (S : Sheet) → Alike (hash-at S) (same-place S)
+same-hash S i j e = ap hash-of (key-exact .only (key-at S i) (key-at S j) e)
