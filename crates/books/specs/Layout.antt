@@ -1,9 +1,9 @@
 -- The lent words: where each thing stands. docs/STATE.md has the map, and says why words.
 -- A field is a word. The regions stand one after the other; the last three have a row for each place of the table.
 use mathlib.Core.List.{List, [], _∷_}
-use Prim.Native.Nat.{ℕ, _-_, _/_, min}
+use Prim.Native.Nat.{ℕ, _-_, _/_, _≤_, min}
 use lib.ListN.{length}
-use Rattle.laws.specs.Rows.{Shape, extent}
+use Rattle.laws.specs.Rows.{Shape, region, after, extent}
 
 -- ── the regions ──
 abbrev pub heads : ℕ
@@ -49,6 +49,11 @@ room-for n = min 65_535 ((n - least-words) / place-words)
 
 abbrev pub room-of : List ℕ → ℕ
 room-of m = room-for (length m)
+
+-- the keys of the first n places are there
+pub record HasKeys (m : List ℕ) (n : ℕ) : Type 0 where
+  pub few : n ≤ 65_535
+  pub room : after (region (layout n) keys) ≤ length m
 
 -- ── the cells of a row ──
 -- heads: whether the day is open, the last number taken, how many groups, symbols and places are in use

@@ -5,7 +5,7 @@ ghost use Prim.Native.Nat.{ℕ, _+_, _≤_, _<_};
 ghost use lib.ListN.{length, replicate};
 ghost use lib.Seq.{sets};
 ghost use lib.Dec.{ltb};
-ghost use Rattle.books.specs.Layout.{least-words, room-for, room-of, places-at};
+ghost use Rattle.books.specs.Layout.{room-for, room-of, HasKeys};
 ghost use Rattle.books.specs.View.{rows-of, head-in};
 ghost use Rattle.books.specs.Writing.{group-index, symbol-index, order-index};
 ghost use Rattle.books.specs.Refining.{Counted};
@@ -89,9 +89,8 @@ pub fn find_symbol(mem: &[u64], id: u64) -> usize
 }
 
 // The key of a place, copied out.
-fn key_of(mem: &[u64], i: usize) -> Key
-    requires { ⌜ Counted (now mem) ⌝ }
-    requires { ⌜ i < room-of (now mem) ⌝ }
+pub fn key_at(mem: &[u64], i: usize) -> Key
+    requires { ⌜ HasKeys (now mem) (i + 1) ⌝ }
     ensures { λ r. ⌜ named-by r ≡ key-at (rows-of (now (mem .entry))) i ⌝ }
 {
     let b = books::KEYS + i * books::KEY_WORDS;
@@ -134,7 +133,7 @@ pub fn find_place(mem: &[u64], key: Key) -> Found
             }
             break Found::Full;
         }
-        if same_key(key, key_of(mem, i)) {
+        if same_key(key, key_at(mem, i)) {
             break Found::At(i);
         }
         i += 1;

@@ -25,8 +25,8 @@ room-requires c κs = search needs
 loop-holds : tie.Need-loop-holds Inv-loop μ-loop
 loop-holds c = (search needs, below-none _)
 
-key-of-requires : tie.Need-key-of-requires Inv-loop μ-loop
-key-of-requires c κs = search needs
+key-at-requires : tie.Need-key-at-requires Inv-loop μ-loop
+key-at-requires c κs = search needs
 
 same-key-requires : tie.Need-same-key-requires Inv-loop μ-loop
 same-key-requires c κs = search needs
@@ -38,7 +38,7 @@ loop-less : tie.Need-loop-less Inv-loop μ-loop
 loop-less c = search needs
 
 loop-again : tie.Need-loop-again Inv-loop μ-loop
-loop-again c = (search needs, below-more _ _ (c .before .before .before .before .loop .inv .1) (sym (ap (is-key (named-by (c .before .before .before .before .before .before .before .before .args .key))) (c .before .before .key-of .ensures)) ∙ sym (c .before .same-key .ensures) ∙ c .if3 .left))
+loop-again c = (search needs, below-more _ _ (c .before .before .before .before .loop .inv .1) (sym (ap (is-key (named-by (c .before .before .before .before .before .before .before .before .args .key))) (c .before .before .key-at .ensures)) ∙ sym (c .before .same-key .ensures) ∙ c .if3 .left))
 
 returns : tie.Need-returns Inv-loop μ-loop
 returns c = found-free _ _ _ _ (c .before .before .loop .inv .1) (omega arith) (omega (arith, c .before .before .before .room .ensures, c .if2 .taken))
@@ -47,7 +47,7 @@ returns-2 : tie.Need-returns-2 Inv-loop μ-loop
 returns-2 c = found-full _ _ _ _ (c .before .before .loop .inv .1) (omega arith) (omega (arith, c .before .before .before .room .ensures, c .if2 .left))
 
 returns-3 : tie.Need-returns-3 Inv-loop μ-loop
-returns-3 c = found-at _ _ _ _ (c .before .before .before .before .loop .inv .1) (c .before .before .before .if1 .left) (sym (ap (is-key (named-by (c .before .before .before .before .before .before .before .before .args .key))) (c .before .before .key-of .ensures)) ∙ sym (c .before .same-key .ensures) ∙ c .if3 .taken)
+returns-3 c = found-at _ _ _ _ (c .before .before .before .before .loop .inv .1) (c .before .before .before .if1 .left) (sym (ap (is-key (named-by (c .before .before .before .before .before .before .before .before .args .key))) (c .before .before .key-at .ensures)) ∙ sym (c .before .same-key .ensures) ∙ c .if3 .taken)
 
 pub find-place-spec : {M : Type 1} → statement M
 find-place-spec =
@@ -58,7 +58,7 @@ find-place-spec =
     shared-slice-read-n
     room-requires
     loop-holds
-    key-of-requires
+    key-at-requires
     same-key-requires
     add-i
     loop-less

@@ -1,0 +1,28 @@
+-- `chains::middle` meets its contract: the arrays are made clear, and long enough.
+use Prim.{tt}
+use lib.Dec.{lit<}
+use borrow.Author.Needs.{needs}
+use Rattle.chains.specs.Chain.{clear}
+use Rattle.chains.proofs.middle.Statement.{statement}
+use Rattle.chains.proofs.middle.Tie as tie
+
+slice-aggregate-distinct-in : tie.Need-slice-aggregate-distinct-in
+slice-aggregate-distinct-in c = search needs
+
+slice-aggregate-distinct-in-2 : tie.Need-slice-aggregate-distinct-in-2
+slice-aggregate-distinct-in-2 c = search needs
+
+distinct-in-requires : tie.Need-distinct-in-requires
+distinct-in-requires c κs = (c .before .before .before .pre .0, clear 16384 8192 _ (lit< tt) (search needs))
+
+returns : tie.Need-returns
+returns c = search needs
+
+pub middle-spec : {M : Type 1} → statement M
+middle-spec =
+    tie.close
+    (tie.spec
+    slice-aggregate-distinct-in
+    slice-aggregate-distinct-in-2
+    distinct-in-requires
+    returns)
