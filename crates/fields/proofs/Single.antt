@@ -12,6 +12,8 @@ use Rattle.fields.proofs.field.Kinds as field-kinds
 use Rattle.fields.proofs.field.Reads as field-reads
 use Rattle.fields.proofs.part.Kinds as part-kinds
 use Rattle.fields.proofs.part.Reads as part-reads
+use Rattle.fields.proofs.takes_byte.Kinds as takes-byte-kinds
+use Rattle.fields.proofs.takes_byte.Reads as takes-byte-reads
 use Rattle.fields.proofs.identifier_at.Kinds as identifier-at-kinds
 use Rattle.fields.proofs.identifier_at.Reads as identifier-at-reads
 use Rattle.fields.proofs.mpid_at.Kinds as mpid-at-kinds
@@ -60,6 +62,9 @@ field-once κs a x y s t p q = p ∙ sym q
 
 part-once : Once 1 part-kinds.ps part-kinds.r part-reads.Post (λ κs x s. now x)
 part-once κs a x y s t p q = p ∙ sym q
+
+takes-byte-once : Once 0 takes-byte-kinds.ps takes-byte-kinds.r takes-byte-reads.Post (λ κs x s. x)
+takes-byte-once κs a x y s t p q = p ∙ sym q
 
 identifier-at-once : Once 1 identifier-at-kinds.ps identifier-at-kinds.r identifier-at-reads.Post (λ κs x s. x)
 identifier-at-once κs a x y s t p q = p ∙ sym q

@@ -22,15 +22,19 @@ word-same (x ∷ xs) (y ∷ ys) a b e =
     let t : word xs ≡ word ys = omega (arith, a .0, b .0) in
     rw (h, word-same xs ys (a .1) (b .1) t)
 
-all-take : (P : ℕ → Type 0) (n : ℕ) (xs : List ℕ) → All P xs → All P (take n xs)
+pub all-take : (P : ℕ → Type 0) (n : ℕ) (xs : List ℕ) → All P xs → All P (take n xs)
 all-take P zero xs a = tt
 all-take P (suc n) [] a = tt
 all-take P (suc n) (x ∷ xs) a = (a .0, all-take P n xs (a .1))
 
-all-drop : (P : ℕ → Type 0) (n : ℕ) (xs : List ℕ) → All P xs → All P (drop n xs)
+pub all-drop : (P : ℕ → Type 0) (n : ℕ) (xs : List ℕ) → All P xs → All P (drop n xs)
 all-drop P zero xs a = a
 all-drop P (suc n) [] a = tt
 all-drop P (suc n) (x ∷ xs) a = all-drop P n xs (a .1)
+
+-- a text is the bytes of its three words
+pub thirds : (zs : List ℕ) → zs ≡ take 8 zs ++ (take 8 (drop 8 zs) ++ drop 16 zs)
+thirds zs = sym (rw (← drop-drop 8 8 zs, take-append-drop 8 (drop 8 zs), take-append-drop 8 zs))
 
 -- THEOREM. Bytes other than 0 that pack alike are the same
 pub ident-same : (xs ys : List ℕ) → All Solid xs → All Solid ys → ident-of xs ≡ ident-of ys → xs ≡ ys
@@ -38,7 +42,4 @@ ident-same xs ys a b e =
     let h = word-same (take 8 xs) (take 8 ys) (all-take Solid 8 xs a) (all-take Solid 8 ys b) (ap (λ (i : Ident). i .head) e) in
     let m = word-same (take 8 (drop 8 xs)) (take 8 (drop 8 ys)) (all-take Solid 8 (drop 8 xs) (all-drop Solid 8 xs a)) (all-take Solid 8 (drop 8 ys) (all-drop Solid 8 ys b)) (ap (λ (i : Ident). i .middle) e) in
     let t = word-same (drop 16 xs) (drop 16 ys) (all-drop Solid 16 xs a) (all-drop Solid 16 ys b) (ap (λ (i : Ident). i .tail) e) in
-    parts xs ∙ rw (h, m, t) (sym (parts ys))
-  where
-    parts : (zs : List ℕ) → zs ≡ take 8 zs ++ (take 8 (drop 8 zs) ++ drop 16 zs)
-    parts zs = sym (rw (← drop-drop 8 8 zs, take-append-drop 8 (drop 8 zs), take-append-drop 8 zs))
+    thirds xs ∙ rw (h, m, t) (sym (thirds ys))

@@ -212,7 +212,7 @@ Holds l (letter set c) v = v .value ≡ c
 Holds l (number low high n) v = v .value ≡ n
 
 -- bytes that say a field have its form
-all-every : (t : ℕ → Bool) (f : List ℕ) → All (λ c. t c ≡ true) f → every t f ≡ true
+pub all-every : (t : ℕ → Bool) (f : List ℕ) → All (λ c. t c ≡ true) f → every t f ≡ true
 unfolding every
 all-every t [] a = refl
 all-every t (c ∷ cs) a = rw (a .0) (all-every t cs (a .1))

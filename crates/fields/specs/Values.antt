@@ -23,7 +23,7 @@ use Rattle.fields.specs.Packing.{Solid, ident-same}
 use Rattle.fields.specs.Trips.{both, text-has}
 
 -- ── bytes in a form say the value that is read from them ──
-every-all : (t : ℕ → Bool) (f : List ℕ) → every t f ≡ true → All (λ c. t c ≡ true) f
+pub every-all : (t : ℕ → Bool) (f : List ℕ) → every t f ≡ true → All (λ c. t c ≡ true) f
 unfolding every
 every-all t [] h = tt
 every-all t (c ∷ cs) h = let w = both h in (w .0, every-all t cs (w .1))
@@ -32,7 +32,7 @@ pub says-identifier : (f : List ℕ) → has-form (identifier unnamed) f ≡ tru
 says-identifier f ok = let h = text-has 1 20 (takes (identifier unnamed)) unnamed f ok in (refl, h .0, h .1, every-all (takes (identifier unnamed)) f (h .2))
 
 -- four bytes fill half a word
-short-packed : (f : List ℕ) → length f ≤ 4 → ident-of f ≡ record { head = word f; middle = 0; tail = 0 }
+pub short-packed : (f : List ℕ) → length f ≤ 4 → ident-of f ≡ record { head = word f; middle = 0; tail = 0 }
 unfolding word
 short-packed f h = rw (take-all 8 f (omega arith), drop-of-length-le f {i = 8} (omega arith), drop-of-length-le f {i = 16} (omega arith))
 

@@ -48,14 +48,14 @@ const TENTH: u64 = 400_000_000_000_000_000;
 // The most bytes of a line, its LF among them.
 const LONGEST: usize = 161;
 
-// The forms of texts and letters.
-const IDENTIFIER: u8 = 0;
+// The forms of texts and letters, by a number.
+pub const IDENTIFIER: u8 = 0;
 
-const MPID: u8 = 1;
+pub const MPID: u8 = 1;
 
-const SIDE: u8 = 2;
+pub const SIDE: u8 = 2;
 
-const YES_NO: u8 = 3;
+pub const YES_NO: u8 = 3;
 
 fn wide(x: u8) -> u64
     ensures { λ r. ⌜ r ≡ x ⌝ }
@@ -220,8 +220,8 @@ fn yes_no_byte(b: u8) -> bool
     false
 }
 
-// Whether the form of this number takes the byte.
-fn takes_byte(kind: u8, b: u8) -> bool
+// Whether the form of this number takes the byte; a number above 3 is as 3.
+pub fn takes_byte(kind: u8, b: u8) -> bool
     ensures { λ r. ⌜ r ≡ takes (form kind) b ⌝ }
 {
     if kind == IDENTIFIER {

@@ -1,0 +1,173 @@
+// Identifiers, targets and MPIDs packed into words, and whether words, letters and numbers have document 01's forms.
+ghost use mathlib.Core.Path.{_≡_};
+ghost use Prim.Native.Nat.{_≤_};
+ghost use lib.ListN.{length, take, drop};
+ghost use Rattle.rulebook.specs.Names.{bytes, word, ident-of};
+ghost use Rattle.rulebook.specs.Lines.{from-to, letter, identifier, mpid};
+ghost use Rattle.fields.specs.Parts.{unnamed, said, takes, every, form};
+ghost use Rattle.packing.specs.Words.{named, spelt, unpacked, follows, tight};
+ghost use Rattle.packing.specs.Fitting.{fits};
+use fields::IDENTIFIER;
+use fields::MPID;
+use fields::Place;
+use fields::SIDE;
+
+// An identifier's or a target's bytes, eight to a word, the first lowest, zeros after the last.
+pub struct Ident {
+    pub head: u64,
+    pub middle: u64,
+    pub tail: u64,
+}
+
+// The least word whose eighth byte is not 0.
+const FULL: u64 = 0x0100_0000_0000_0000;
+
+// The least word whose fourth byte is not 0, and the least with a byte after it.
+const FOUR: u64 = 0x0100_0000;
+
+const FIVE: u64 = 0x1_0000_0000;
+
+// A byte as a word.
+fn wide(x: u8) -> u64
+    ensures { λ r. ⌜ r ≡ x ⌝ }
+{
+    x as u64
+}
+
+// At most eight bytes as one word, the first lowest; 0 of none.
+fn pack_word(text: &[u8]) -> u64
+    requires { ⌜ length (now text) ≤ 8 ⌝ }
+    ensures { λ r. ⌜ r ≡ word (now (text .entry)) ⌝ }
+{
+    let mut w = 0;
+    let mut i = text.len();
+    while i > 0 {
+        i -= 1;
+        w = wide(text[i]) + 256 * w;
+    }
+    w
+}
+
+// The word of the bytes from a place on, eight or as many as there are; 0 past the end.
+fn pack_eight(text: &[u8], from: usize) -> u64
+    requires { ⌜ from ≤ 16 ⌝ }
+    ensures { λ r. ⌜ r ≡ word (take 8 (drop from (now (text .entry)))) ⌝ }
+{
+    pack_word(fields::part(text, Place { from, to: from + 8 }))
+}
+
+// The identifier that a stretch of the line says, packed: of its first 24 bytes, where it has more.
+pub fn pack_identifier(line: &[u8], at: Place) -> Ident
+    ensures { λ r. ⌜ named r ≡ ident-of (take 24 (said (now (line .entry)) at)) ⌝ }
+{
+    let text = fields::part(line, at);
+    Ident {
+        head: pack_eight(text, 0),
+        middle: pack_eight(text, 8),
+        tail: pack_eight(text, 16),
+    }
+}
+
+// The MPID that a stretch of the line says, packed: of its first four bytes, where it has more.
+pub fn pack_mpid(line: &[u8], at: Place) -> u64
+    ensures { λ r. ⌜ r ≡ word (take 4 (said (now (line .entry)) at)) ⌝ }
+{
+    let text = fields::part(line, at);
+    pack_word(fields::part(text, Place { from: 0, to: 4 }))
+}
+
+// Whether the form of this number takes each byte of a word, up to its last that is not 0; true of 0.
+fn takes_word(kind: u8, word: u64) -> bool
+    ensures { λ r. ⌜ r ≡ every (takes (form kind)) (spelt 8 word) ⌝ }
+{
+    let mut w = word;
+    while w != 0 {
+        if fields::takes_byte(kind, (w % 256) as u8) {
+            w = w / 256;
+        } else {
+            return false;
+        }
+    }
+    true
+}
+
+// Whether the identifier's form takes each byte of the three words.
+fn takes_words(x: Ident) -> bool
+    ensures { λ r. ⌜ r ≡ every (takes (identifier unnamed)) (unpacked (named x)) ⌝ }
+{
+    if takes_word(IDENTIFIER, x.head) {
+        if takes_word(IDENTIFIER, x.middle) {
+            return takes_word(IDENTIFIER, x.tail);
+        }
+    }
+    false
+}
+
+// Whether a word may have this one after it: any where it is full, 0 alone where it is not.
+fn may_follow(word: u64, next: u64) -> bool
+    ensures { λ r. ⌜ r ≡ follows word next ⌝ }
+{
+    if next == 0 {
+        return true;
+    }
+    word >= FULL
+}
+
+// Whether the words are those of a text of 1 to 20 bytes, none of them 0: each is full before the next begins.
+fn is_tight(x: Ident) -> bool
+    ensures { λ r. ⌜ r ≡ tight (named x) ⌝ }
+{
+    if x.head == 0 {
+        return false;
+    }
+    if x.tail >= FIVE {
+        return false;
+    }
+    if may_follow(x.head, x.middle) {
+        return may_follow(x.middle, x.tail);
+    }
+    false
+}
+
+// Whether the words are a packed identifier or target: 1 to 20 bytes from 33 to 126, and no `|`.
+pub fn is_identifier(x: Ident) -> bool
+    ensures { λ r. ⌜ r ≡ fits (identifier (named x)) ⌝ }
+{
+    if is_tight(x) {
+        return takes_words(x);
+    }
+    false
+}
+
+// Whether a word is a packed MPID: four bytes, each a capital letter or a digit.
+pub fn is_mpid(w: u64) -> bool
+    ensures { λ r. ⌜ r ≡ fits (mpid (record { code = w })) ⌝ }
+{
+    if w < FOUR {
+        return false;
+    }
+    if w >= FIVE {
+        return false;
+    }
+    takes_word(MPID, w)
+}
+
+// Whether a number is neither below the least nor above the greatest.
+pub fn in_range(low: u64, high: u64, n: u64) -> bool
+    ensures { λ r. ⌜ r ≡ from-to low high n ⌝ }
+{
+    if n < low {
+        return false;
+    }
+    n <= high
+}
+
+// Whether a number is the letter of a side: B, S, H or E.
+pub fn is_side(c: u64) -> bool
+    ensures { λ r. ⌜ r ≡ fits (letter (bytes "BSHE") c) ⌝ }
+{
+    if c > 255 {
+        return false;
+    }
+    fields::takes_byte(SIDE, c as u8)
+}
