@@ -46,9 +46,9 @@ fn hash(key: Key) -> usize
     ensures { λ r. ⌜ r ≡ hash-of (named-by key) ⌝ }
 {
     let a = mix(0, key.owner);
-    let b = mix(a, key.head);
-    let c = mix(b, key.middle);
-    let d = mix(c, key.tail);
+    let b = mix(a, key.name.head);
+    let c = mix(b, key.name.middle);
+    let d = mix(c, key.name.tail);
     let h = mix(d, 0);
     (h / HALF) as usize
 }
@@ -62,13 +62,13 @@ fn has_key(mem: &[u64], i: usize, key: Key) -> bool
     if mem[b + books::OWNER] != key.owner {
         return false;
     }
-    if mem[b + books::NAME] != key.head {
+    if mem[b + books::NAME] != key.name.head {
         return false;
     }
-    if mem[b + books::NAME_MIDDLE] != key.middle {
+    if mem[b + books::NAME_MIDDLE] != key.name.middle {
         return false;
     }
-    mem[b + books::NAME_TAIL] == key.tail
+    mem[b + books::NAME_TAIL] == key.name.tail
 }
 
 // The hash of a place's key.

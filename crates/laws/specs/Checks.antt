@@ -1,9 +1,13 @@
 -- Chains of checks: tests with numbers, of which the first that holds gives its own.
-use mathlib.Core.Path.{_≡_}
-use mathlib.Core.Bool.{Bool, true, false, _&&_, cond, and-eq-true-iff}
+use mathlib.Core.Path.{_≡_, refl, sym, _∙_}
+use mathlib.Core.Bool.{Bool, true, false, not, _&&_, cond, and-eq-true-iff}
 use mathlib.Core.List.{List, [], _∷_}
-use Prim.Native.Nat.{ℕ}
+use Prim.Native.Nat.{ℕ, _≤_, _<_}
+use native.Mathlib.Omega.{arith}
+use lib.Dec.{leb}
+use borrow.Author.Tests.{not-true, not-false, le-leb, lt-leb}
 use Rattle.laws.specs.Tests.{on}
+use Rattle.laws.specs.Tables.{All}
 
 pub data Check : Type 0 where
   _⇒_ : Bool → ℕ → Check
@@ -35,3 +39,46 @@ first-cases P q [] e f g = g tt
 first-cases P q ((t ⇒ n) ∷ l) e f g =
     let h = and-eq-true-iff (q n) (each q l) .0 e in
     on (λ b. P (cond b n (first l))) t (λ z. f n (h .0)) (λ z. first-cases P q l (h .1) f (λ c. g (z, c)))
+
+-- ── rules: tests that must all hold ──
+unfoldable pub all-hold : List Bool → Bool
+all-hold [] = true
+all-hold (b ∷ bs) = b && all-hold bs
+
+pub rules-read : (bs : List Bool) → all-hold bs ≡ true → All (λ b. b ≡ true) bs
+unfolding all-hold
+rules-read [] e = tt
+rules-read (b ∷ bs) e = let w = and-eq-true-iff b (all-hold bs) .0 e in (w .0, rules-read bs (w .1))
+
+pub rules-met : (bs : List Bool) → All (λ b. b ≡ true) bs → all-hold bs ≡ true
+unfolding all-hold
+rules-met [] a = refl
+rules-met (b ∷ bs) a = and-eq-true-iff b (all-hold bs) .1 (a .0, rules-met bs (a .1))
+
+-- what a function answers that tries one rule after the other: the first that fails says no, and the last says what is left.
+-- By what a call returned, and by an order or an equality of numbers
+pub stop : (b : Bool) (bs : List Bool) → b ≡ false → false ≡ all-hold (b ∷ bs)
+unfolding all-hold
+stop b bs e = rw e refl
+
+pub pass : (b x : Bool) (bs : List Bool) → b ≡ true → x ≡ all-hold bs → x ≡ all-hold (b ∷ bs)
+unfolding all-hold
+pass b x bs e h = rw e h
+
+pub stop-call : (a b : Bool) (bs : List Bool) → a ≡ b → not a ≡ true → false ≡ all-hold (b ∷ bs)
+stop-call a b bs e h = stop b bs (sym e ∙ not-true a h)
+
+pub pass-call : (a b x : Bool) (bs : List Bool) → a ≡ b → not a ≡ false → x ≡ all-hold bs → x ≡ all-hold (b ∷ bs)
+pass-call a b x bs e h k = pass b x bs (sym e ∙ not-false a h) k
+
+pub last-call : (a b : Bool) → a ≡ b → a ≡ all-hold (b ∷ [])
+unfolding all-hold
+last-call a b e = e ∙ on (λ b. b ≡ (b && true)) b (λ q. refl) (λ q. refl)
+
+pub stop-most : (n most : ℕ) (bs : List Bool) → most < n → false ≡ all-hold (leb n most ∷ bs)
+stop-most n most bs h = stop (leb n most) bs (lt-leb n most h)
+
+pub pass-most : (n most : ℕ) (x : Bool) (bs : List Bool) → n ≤ most → x ≡ all-hold bs → x ≡ all-hold (leb n most ∷ bs)
+pass-most n most x bs h k = pass (leb n most) x bs (le-leb n most h) k
+
+pub ruleset rules-tried = (stop-call, pass-call, last-call, stop-most, pass-most, arith)

@@ -8,18 +8,19 @@ use borrow.Author.Tests.{lt-ltb, le-ltb}
 use Rattle.laws.specs.Numbered.{least, least-at, least-none}
 use Rattle.laws.specs.Rows.{Sheet}
 use Rattle.rulebook.specs.Names.{Mpid, Key, same-key}
+use Rattle.packing.specs.Words.{named}
 use Rattle.books.specs.Layout.{keys, places-at}
 use Rattle.books.specs.View.{head-in, key-in}
 use Rattle.store.specs.declared.Key.{Key as KeyWords}
 use Rattle.store.specs.declared.Found.{Found}
 use Rattle.store.specs.declared.Found.the-variants.{At, Free, Full}
 
--- the MPID that a word is, and the key that four words are
+-- the MPID that a word is, and the key of the code's words
 abbrev pub mpid-word : ℕ → Mpid
 mpid-word w = record { code = w }
 
 abbrev pub named-by : KeyWords → Key
-named-by k = record { owner = record { mpid = mpid-word (k .owner) }; name = record { head = k .head; middle = k .middle; tail = k .tail } }
+named-by k = record { owner = record { mpid = mpid-word (k .owner) }; name = named (k .name) }
 
 abbrev pub key-at : Sheet → ℕ → Key
 key-at S i = key-in (S keys i)

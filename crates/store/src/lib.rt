@@ -10,13 +10,12 @@ ghost use Rattle.books.specs.View.{rows-of, head-in};
 ghost use Rattle.books.specs.Writing.{group-index, symbol-index, order-index};
 ghost use Rattle.books.specs.Refining.{Counted};
 ghost use Rattle.store.specs.Finding.{mpid-word, named-by, key-at, is-key, found-place};
+use packing::Ident;
 
-// A request's key: its owner's MPID, and the three words of its identifier.
+// A request's key: its owner's MPID, and its identifier.
 pub struct Key {
     pub owner: u64,
-    pub head: u64,
-    pub middle: u64,
-    pub tail: u64,
+    pub name: Ident,
 }
 
 // What the search of the table yields: the place that has the key, or the first free one, or that there is none.
@@ -96,9 +95,11 @@ pub fn key_at(mem: &[u64], i: usize) -> Key
     let b = books::KEYS + i * books::KEY_WORDS;
     Key {
         owner: mem[b + books::OWNER],
-        head: mem[b + books::NAME],
-        middle: mem[b + books::NAME_MIDDLE],
-        tail: mem[b + books::NAME_TAIL],
+        name: Ident {
+            head: mem[b + books::NAME],
+            middle: mem[b + books::NAME_MIDDLE],
+            tail: mem[b + books::NAME_TAIL],
+        },
     }
 }
 
@@ -109,13 +110,13 @@ fn same_key(a: Key, b: Key) -> bool
     if a.owner != b.owner {
         return false;
     }
-    if a.head != b.head {
+    if a.name.head != b.name.head {
         return false;
     }
-    if a.middle != b.middle {
+    if a.name.middle != b.name.middle {
         return false;
     }
-    a.tail == b.tail
+    a.name.tail == b.name.tail
 }
 
 // The place with the key, or the first free one, or that the table is full.
