@@ -79,8 +79,26 @@ holding room S e =
     let q = both _ _ (p .1) in
     let r = both _ _ (q .1) in
     let s = both _ _ (r .1) in
-    record { few-groups = a .0; few-symbols = b .0; few-places = c .0; head = d .0; groups-fit = f .0; symbols-fit = g .0; requests-fit = h .0; figures-right = i .0; mpids-apart = j .0; ids-apart = k .0; keys-apart = l .0;
-      desks-listed = m .0; symbols-listed = n .0; none-early = o .0; nothing-early = p .0; done-within = q .0; sums-right = r .0; gross-within = s .0 }
+    record {
+      few-groups = a .0;
+      few-symbols = b .0;
+      few-places = c .0;
+      head = d .0;
+      groups-fit = f .0;
+      symbols-fit = g .0;
+      requests-fit = h .0;
+      figures-right = i .0;
+      mpids-apart = j .0;
+      ids-apart = k .0;
+      keys-apart = l .0;
+      desks-listed = m .0;
+      symbols-listed = n .0;
+      none-early = o .0;
+      nothing-early = p .0;
+      done-within = q .0;
+      sums-right = r .0;
+      gross-within = s .0;
+    }
 
 pub held : (room : ℕ) (S : Sheet) → Holds room S → every-rule (rules room S) ≡ true
 unfolding rules
@@ -184,8 +202,12 @@ module _ (room : ℕ) (S : Sheet) (h : Holds room S) where
   each-order : (i : ℕ) → i < head-in S places-at → opens-of S i ≡ true → SoundOrder (numbered (symbol-of S) (head-in S symbols-at)) (order-of S i)
   each-order i lt e =
       let w = order-figures i lt e in
-      record { size-fits = fits-exactly (size (S orders i order-size-at)) tt .0 (w .0); price-fits = fits-exactly (price (S orders i order-price-at)) tt .0 (w .1); listed = each-symbol-listed i lt e;
-        done-within = leb-true _ _ (every-each (λ i. leb (S orders i done-at) (S orders i order-size-at)) (head-in S places-at) (h .done-within) i lt) }
+      record {
+        size-fits = fits-exactly (size (S orders i order-size-at)) tt .0 (w .0);
+        price-fits = fits-exactly (price (S orders i order-price-at)) tt .0 (w .1);
+        listed = each-symbol-listed i lt e;
+        done-within = leb-true _ _ (every-each (λ i. leb (S orders i done-at) (S orders i order-size-at)) (head-in S places-at) (h .done-within) i lt);
+      }
 
   each-sum : (i : ℕ) → i < head-in S groups-at → Summed (orders-in S) (S groups i)
   unfolding sums-are

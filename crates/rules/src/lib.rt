@@ -4,9 +4,11 @@ use packing::Ident;
 ghost use mathlib.Core.Path.{_≡_};
 ghost use Prim.Native.Nat.{_+_, _≤_, _<_};
 ghost use lib.ListN.{length};
-ghost use Rattle.books.specs.Layout.{least-words, keys, room-of, HasKeys};
+ghost use Rattle.books.specs.Layout.{least-words, room-of, HasKeys};
 ghost use Rattle.books.specs.View.{head-in, rows-of};
-ghost use Rattle.packing.specs.Words.{named};
+ghost use Rattle.packing.specs.Fitting.{fits};
+ghost use Rattle.rulebook.specs.Lines.{identifier};
+ghost use Rattle.store.specs.Finding.{key-at};
 ghost use Rattle.rules.specs.Passing.{HasGroup, HasSymbol, HasRow, words-within, head-ok, totals-ok, group-ok, symbol-ok, number-ok, sized-ok, new-ok, change-ok, cancel-ok, deal-ok, figures-ok, target-at, request-ok, is-order};
 
 // The forms' bounds.
@@ -161,16 +163,16 @@ fn new_ok(mem: &[u64], b: usize) -> bool
     sized_ok(mem, b)
 }
 
-// The target of the request at b.
-fn target_of(mem: &[u64], b: usize) -> Ident
+// Whether the target of the request at b is an identifier.
+fn target_ok(mem: &[u64], b: usize) -> bool
     requires { ⌜ HasRow (now mem) b ⌝ }
-    ensures { λ r. ⌜ named r ≡ target-at (now (mem .entry)) b ⌝ }
+    ensures { λ r. ⌜ r ≡ fits (identifier (target-at (now (mem .entry)) b)) ⌝ }
 {
-    Ident {
+    packing::is_identifier(Ident {
         head: mem[b + books::TARGET],
         middle: mem[b + books::TARGET_MIDDLE],
         tail: mem[b + books::TARGET_TAIL],
-    }
+    })
 }
 
 // Whether the words of an M are in range: it has no symbol and no side.
@@ -181,7 +183,7 @@ fn change_ok(mem: &[u64], b: usize) -> bool
     if !within(mem, b + books::SYMBOL, 2, 0) {
         return false;
     }
-    if !packing::is_identifier(target_of(mem, b)) {
+    if !target_ok(mem, b) {
         return false;
     }
     sized_ok(mem, b)
@@ -195,7 +197,7 @@ fn cancel_ok(mem: &[u64], b: usize) -> bool
     if !within(mem, b + books::SYMBOL, 4, 0) {
         return false;
     }
-    packing::is_identifier(target_of(mem, b))
+    target_ok(mem, b)
 }
 
 // Whether the words of the request at b are in range for its kind, which is one of the five.
@@ -222,13 +224,21 @@ fn deal_ok(mem: &[u64], b: usize) -> bool
     false
 }
 
+// Whether a taken place's key has an identifier.
+fn name_ok(mem: &[u64], i: usize) -> bool
+    requires { ⌜ HasKeys (now mem) (i + 1) ⌝ }
+    ensures { λ r. ⌜ r ≡ fits (identifier (key-at (rows-of (now (mem .entry))) i .name)) ⌝ }
+{
+    packing::is_identifier(store::key_at(mem, i).name)
+}
+
 // Whether a taken place has an identifier and its request, at b, words in range.
 pub fn request_ok(mem: &[u64], i: usize, b: usize) -> bool
     requires { ⌜ HasKeys (now mem) (i + 1) ⌝ }
     requires { ⌜ HasRow (now mem) b ⌝ }
     ensures { λ r. ⌜ r ≡ request-ok (now (mem .entry)) i b ⌝ }
 {
-    if !packing::is_identifier(store::key_at(mem, i).name) {
+    if !name_ok(mem, i) {
         return false;
     }
     if !number_ok(mem[b + books::NUMBER]) {

@@ -1,8 +1,12 @@
+-- `rules::opens` meets its contract: the rules are tried in their order, and the first that fails says no.
 use borrow.Author.Needs.{needs}
 use Rattle.rules.proofs.opens.Statement.{statement}
+use mathlib.Core.Path.{refl}
+use Prim.Native.Nat.{_-_}
+use borrow.Author.Tests.{eq-eqb, ne-eqb}
+use Rattle.laws.specs.Checks.{stop, pass, last-call}
+use Rattle.rules.specs.Passing.{is-order}
 use Rattle.rules.proofs.opens.Tie as tie
-use Rattle.rules.proofs.opens.Reads as reads
-use Rattle.rules.proofs.opens.Lts as lts
 
 add-if1 : tie.Need-add-if1
 add-if1 c = search needs
@@ -14,7 +18,8 @@ shared-slice-read-if1 : tie.Need-shared-slice-read-if1
 shared-slice-read-if1 c = search needs
 
 returns : tie.Need-returns
-returns c = ?
+unfolding is-order
+returns c = stop _ _ (ne-eqb _ _ (c .if1 .taken))
 
 add-result : tie.Need-add-result
 add-result c = search needs
@@ -26,7 +31,8 @@ shared-slice-read-result : tie.Need-shared-slice-read-result
 shared-slice-read-result c = search needs
 
 returns-2 : tie.Need-returns-2
-returns-2 c = ?
+unfolding is-order
+returns-2 c = pass _ _ _ (eq-eqb _ _ (c .before .if1 .left)) (last-call _ _ refl)
 
 pub opens-spec : {M : Type 1} → statement M
 opens-spec =

@@ -1,9 +1,10 @@
+-- `rules::sized_ok` meets its contract: the rules are tried in their order, and the first that fails says no.
 use borrow.Author.Needs.{needs}
 use Rattle.rules.proofs.sized_ok.Statement.{statement}
+use Prim.Native.Nat.{_-_}
+use Rattle.laws.specs.Checks.{rules-tried}
+use Rattle.rules.specs.Passing.{sized-ok}
 use Rattle.rules.proofs.sized_ok.Tie as tie
-use Rattle.rules.proofs.sized_ok.Reads as reads
-use Rattle.rules.proofs.sized_ok.Lts as lts
-use Rattle.packing.proofs.in_range.Reads as in-range-reads
 
 add-in-range : tie.Need-add-in-range
 add-in-range c = search needs
@@ -18,7 +19,8 @@ in-range-requires : tie.Need-in-range-requires
 in-range-requires c κs = search needs
 
 returns : tie.Need-returns
-returns c = ?
+unfolding sized-ok
+returns c = search rules-tried depth 12
 
 add-in-range-2 : tie.Need-add-in-range-2
 add-in-range-2 c = search needs
@@ -33,7 +35,8 @@ in-range-requires-2 : tie.Need-in-range-requires-2
 in-range-requires-2 c κs = search needs
 
 returns-2 : tie.Need-returns-2
-returns-2 c = ?
+unfolding sized-ok
+returns-2 c = search rules-tried depth 12
 
 pub sized-ok-spec : {M : Type 1} → statement M
 sized-ok-spec =
