@@ -123,14 +123,14 @@ orelse : (b c : Bool) → (b ≡ false → c ≡ true) → (b || c) ≡ true
 orelse true c f = refl
 orelse false c f = f refl
 
-words-same : (xs ys : List ℕ) → same-words xs ys ≡ true → xs ≡ ys
+pub words-same : (xs ys : List ℕ) → same-words xs ys ≡ true → xs ≡ ys
 unfolding same-words
 words-same [] [] e = refl
 words-same [] (y ∷ ys) e = absurd (false≢true e)
 words-same (x ∷ xs) [] e = absurd (false≢true e)
 words-same (x ∷ xs) (y ∷ ys) e = let w = both (eqb x y) _ e in ap₂ {C = List ℕ} (λ a l. a ∷ l) (eqb-true x y (w .0)) (words-same xs ys (w .1))
 
-same-itself : (xs ys : List ℕ) → xs ≡ ys → same-words xs ys ≡ true
+pub same-itself : (xs ys : List ℕ) → xs ≡ ys → same-words xs ys ≡ true
 unfolding same-words
 same-itself xs ys e = subst (λ ys. same-words xs ys ≡ true) e (go xs)
   where
