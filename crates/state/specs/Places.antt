@@ -1,0 +1,56 @@
+-- The rules of the table's places as the code tries them, and where the desk of a place and the symbol of an order are listed.
+use mathlib.Core.Path.{_≡_, sym, _∙_, subst}
+use mathlib.Core.Bool.{Bool, true, false, _&&_, cond}
+use mathlib.Core.List.{List, [], _∷_}
+use Prim.Native.Nat.{ℕ, _≤_, _<_}
+use lib.Dec.{ltb, eqb}
+use borrow.Author.Tests.{eq-eqb}
+use Rattle.laws.specs.Tests.{eqb-exact, exact-sym}
+use Rattle.laws.specs.Numbered.{apart, apart-each, least-at, least-is}
+use Rattle.laws.specs.Rows.{Sheet}
+use Rattle.laws.specs.Checks.{all-hold}
+use Rattle.rulebook.specs.Names.{Mpid, same-mpid}
+use Rattle.books.specs.Layout.{groups, symbols, requests, mpid-at, id-at, symbol-at, groups-at, symbols-at}
+use Rattle.books.specs.View.{mpid-in, head-in, rows-of, opens-of, asked-of}
+use Rattle.books.specs.Writing.{group-index, symbol-index}
+use Rattle.store.specs.Finding.{mpid-word}
+use Rattle.rules.specs.Passing.{words-within, request-ok, figures-ok}
+use Rattle.rules.specs.Agreeing.{request-start, order-start}
+
+-- two groups with one MPID, two symbols with one ID
+abbrev pub same-desk : List ℕ → ℕ → ℕ → Bool
+same-desk m i j = same-mpid (mpid-in (rows-of m groups i)) (mpid-in (rows-of m groups j))
+
+abbrev pub same-id : List ℕ → ℕ → ℕ → Bool
+same-id m i j = eqb (rows-of m symbols i id-at) (rows-of m symbols j id-at)
+
+-- an order's figures are in range and its symbol is listed; a place without one has none
+unfoldable pub figures-right : List ℕ → ℕ → Bool
+figures-right m i = cond (opens-of (rows-of m) i) (all-hold (figures-ok m (order-start m i) ∷ ltb (symbol-index (rows-of m) (rows-of m requests i symbol-at)) (head-in (rows-of m) symbols-at) ∷ [])) (words-within m (order-start m i) 4 0)
+
+unfoldable pub place-ok : List ℕ → ℕ → Bool
+place-ok m i = all-hold (request-ok m i (request-start m i) ∷ figures-right m i ∷ [])
+
+-- the group of a place's owner
+abbrev pub desk-at : List ℕ → ℕ → ℕ
+desk-at m i = group-index (rows-of m) (asked-of (rows-of m) i .request .key .owner .mpid)
+
+-- ── a hint that is right is where the search would end ──
+pub desk-hint : (m : List ℕ) (w g : ℕ) → apart (same-desk m) (head-in (rows-of m) groups-at) ≡ true → g < head-in (rows-of m) groups-at → rows-of m groups g mpid-at ≡ w → g ≡ group-index (rows-of m) (mpid-word w)
+unfolding group-index
+desk-hint m w g a lt e = sym (least-at _ (head-in (rows-of m) groups-at) g lt
+    (λ j h. exact-sym eqb-exact w (rows-of m groups j mpid-at) ∙ subst (λ (w : ℕ). eqb (rows-of m groups j mpid-at) w ≡ false) e (apart-each (same-desk m) (head-in (rows-of m) groups-at) a j g h lt)) (eq-eqb w (rows-of m groups g mpid-at) (sym e)))
+
+pub id-hint : (m : List ℕ) (w g : ℕ) → apart (same-id m) (head-in (rows-of m) symbols-at) ≡ true → g < head-in (rows-of m) symbols-at → rows-of m symbols g id-at ≡ w → g ≡ symbol-index (rows-of m) w
+unfolding symbol-index
+id-hint m w g a lt e = sym (least-at _ (head-in (rows-of m) symbols-at) g lt
+    (λ j h. exact-sym eqb-exact w (rows-of m symbols j id-at) ∙ subst (λ (w : ℕ). eqb (rows-of m symbols j id-at) w ≡ false) e (apart-each (same-id m) (head-in (rows-of m) symbols-at) a j g h lt)) (eq-eqb w (rows-of m symbols g id-at) (sym e)))
+
+-- a search ends within the rows
+pub desk-within : (S : Sheet) (k : Mpid) → group-index S k ≤ head-in S groups-at
+unfolding group-index
+desk-within S k = least-is _ (head-in S groups-at) .within
+
+pub id-within : (S : Sheet) (k : ℕ) → symbol-index S k ≤ head-in S symbols-at
+unfolding symbol-index
+id-within S k = least-is _ (head-in S symbols-at) .within

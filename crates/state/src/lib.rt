@@ -1,0 +1,106 @@
+// The state rules of the whole lent memory: 22 where they fail. The memory may be anything, and of any length.
+// The time is linear in the places: identifiers are told apart by chains, and the open values of all groups are summed in one pass.
+ghost use mathlib.Core.Path.{_≡_};
+ghost use mathlib.Core.Bool.{true, false, _&&_};
+ghost use Prim.Native.Nat.{ℕ, _+_, _≤_, _<_};
+ghost use lib.ListN.{length};
+ghost use Rattle.laws.specs.Numbered.{every, apart};
+ghost use Rattle.books.specs.Layout.{room-of, groups-at, symbols-at, places-at, symbol-at, requests};
+ghost use Rattle.books.specs.View.{head-in, rows-of, asked-of};
+ghost use Rattle.books.specs.Writing.{group-index, symbol-index};
+ghost use Rattle.books.specs.Refining.{Counted};
+ghost use Rattle.store.specs.Finding.{mpid-word};
+ghost use Rattle.rules.specs.Passing.{group-ok, symbol-ok};
+ghost use Rattle.state.specs.Places.{same-desk, same-id, figures-right, place-ok, desk-at};
+
+const CEILING: u64 = 4_000_000_000_000_000_000;
+
+const BUY: u64 = 66;
+
+// Hints of where groups and symbols stand, and by what their words are spread over them.
+const DESK_HINTS: usize = 128;
+
+const DESK_SPREAD: u64 = 127;
+
+const ID_HINTS: usize = 512;
+
+const ID_SPREAD: u64 = 509;
+
+// A hint, as wide as an index.
+fn wide(x: u16) -> usize
+    ensures { λ r. ⌜ r ≡ x ⌝ }
+{
+    x as usize
+}
+
+// Whether every listed group's words are in range.
+fn groups_ok(mem: &[u64]) -> bool
+    requires { ⌜ Counted (now mem) ⌝ }
+    ensures { λ r. ⌜ r ≡ every (group-ok (now (mem .entry))) (head-in (rows-of (now (mem .entry))) groups-at) ⌝ }
+{
+    let n = mem[books::GROUPS_LISTED] as usize;
+    let mut i = 0;
+    while i < n {
+        if !rules::group_ok(mem, i) {
+            return false;
+        }
+        i += 1;
+    }
+    true
+}
+
+// Whether every listed symbol's words are in range.
+fn symbols_ok(mem: &[u64]) -> bool
+    requires { ⌜ Counted (now mem) ⌝ }
+    ensures { λ r. ⌜ r ≡ every (symbol-ok (now (mem .entry))) (head-in (rows-of (now (mem .entry))) symbols-at) ⌝ }
+{
+    let n = mem[books::SYMBOLS_LISTED] as usize;
+    let mut i = 0;
+    while i < n {
+        if !rules::symbol_ok(mem, i) {
+            return false;
+        }
+        i += 1;
+    }
+    true
+}
+
+// The first group with the MPID, or how many are listed. The hint of where it was last found is tried first, and is believed only where it is right.
+fn find_desk(mem: &[u64], hints: &mut [u16], mpid: u64) -> usize
+    requires { ⌜ Counted (now mem) ⌝ }
+    requires { ⌜ apart (same-desk (now mem)) (head-in (rows-of (now mem)) groups-at) ≡ true ⌝ }
+    requires { ⌜ 127 ≤ length (now hints) ⌝ }
+    ensures index { λ r. ⌜ r ≡ group-index (rows-of (now (mem .entry))) (mpid-word mpid) ⌝ }
+    ensures hints { λ _. ⌜ length (now (hints .exit)) ≡ length (now (hints .entry)) ⌝ }
+{
+    let s = (mpid % DESK_SPREAD) as usize;
+    let g = wide(hints[s]);
+    if g < mem[books::GROUPS_LISTED] as usize {
+        if mem[books::GROUPS + g * books::GROUP_WORDS + books::GROUP_MPID] == mpid {
+            return g;
+        }
+    }
+    let k = store::find_group(mem, mpid);
+    hints[s] = k as u16;
+    k
+}
+
+// The same for a symbol and its ID.
+fn find_id(mem: &[u64], hints: &mut [u16], id: u64) -> usize
+    requires { ⌜ Counted (now mem) ⌝ }
+    requires { ⌜ apart (same-id (now mem)) (head-in (rows-of (now mem)) symbols-at) ≡ true ⌝ }
+    requires { ⌜ 509 ≤ length (now hints) ⌝ }
+    ensures index { λ r. ⌜ r ≡ symbol-index (rows-of (now (mem .entry))) id ⌝ }
+    ensures hints { λ _. ⌜ length (now (hints .exit)) ≡ length (now (hints .entry)) ⌝ }
+{
+    let s = (id % ID_SPREAD) as usize;
+    let g = wide(hints[s]);
+    if g < mem[books::SYMBOLS_LISTED] as usize {
+        if mem[books::SYMBOLS + g * books::SYMBOL_WORDS + books::SYMBOL_ID] == id {
+            return g;
+        }
+    }
+    let k = store::find_symbol(mem, id);
+    hints[s] = k as u16;
+    k
+}
