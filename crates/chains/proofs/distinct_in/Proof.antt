@@ -1,4 +1,4 @@
--- `chains::distinct_in` meets its contract: the arrays hold the chains of the places before the j-th, and each of those is fresh.
+-- `chains::distinct_in` meets its contract: the arrays hold the chains of the rows before the j-th, and each of those is fresh.
 use mathlib.Core.Path.{_≡_, refl, sym, ap, _∙_}
 use mathlib.Core.Bool.{true}
 use Prim.Native.Nat.{ℕ, _-_, _%_, _^_, _≤_, _<_}
@@ -7,27 +7,26 @@ use lib.ListN.{length, length-set}
 use borrow.Author.Needs.{needs}
 use borrow.Author.Tests.{not-true, not-false}
 use borrow.Author.Count.{below-none, below-more}
-use Rattle.books.specs.View.{same-place, rows-of}
 use Rattle.chains.specs.Chain.{fresh, all-fresh, one-stale, slot, Chained, chain-none, chain-slot, chain-linked, chain-more}
-use Rattle.chains.specs.Keys.{hash-at}
+use Rattle.chains.specs.Words.{same-row, rows-to, hash-row}
 use Rattle.chains.proofs.distinct_in.Statement.{statement}
 use Rattle.chains.proofs.distinct_in.Tie as tie
 
 abbrev Inv-loop : tie.InvT-loop
-Inv-loop mem n head₀ next₀ d j₀ head next j =
-    (j ≤ n) × Chained (hash-at (rows-of mem)) d head next j × ((k : ℕ) → k < j → fresh (same-place (rows-of mem)) k ≡ true) × (length next ≡ length next₀)
+Inv-loop mem at width words n head₀ next₀ d j₀ head next j =
+    (j ≤ n) × Chained (hash-row mem at width words) d head next j × ((k : ℕ) → k < j → fresh (same-row mem at width words) k ≡ true) × (length next ≡ length next₀)
 
 abbrev μ-loop : tie.MeasureT-loop
-μ-loop mem n head₀ next₀ d j₀ head next j = n - j
+μ-loop mem at width words n head₀ next₀ d j₀ head next j = n - j
 
 loop-holds : tie.Need-loop-holds Inv-loop μ-loop
 loop-holds c = (search needs, chain-none (c .before .before .before .pre .1), below-none _, refl)
 
 hash-at-requires : tie.Need-hash-at-requires Inv-loop μ-loop
-hash-at-requires c κs = search needs
+hash-at-requires c κs = rows-to (c .before .before .before .before .before .pre .0) _ (search needs)
 
--- the slot of the place, and room for it
-on-slot : (c : tie.After-hash-at Inv-loop μ-loop) → let d = length (c .before .before .before .before .before .before .args .head .now) in c .hash-at .result % d ≡ slot (hash-at (rows-of (c .before .before .before .before .before .before .args .mem .now))) d (c .before .before .loop .j)
+-- the slot of the row, and room for it
+on-slot : (c : tie.After-hash-at Inv-loop μ-loop) → let a = c .before .before .before .before .before .before .args in let d = length (a .head .now) in c .hash-at .result % d ≡ slot (hash-row (a .mem .now) (a .at) (a .width) (a .words)) d (c .before .before .loop .j)
 on-slot c = ap (λ (x : ℕ). x % length (c .before .before .before .before .before .before .args .head .now)) (c .hash-at .ensures)
 
 room : (c : tie.After-hash-at Inv-loop μ-loop) → c .before .before .loop .j < length (c .before .before .loop .next)
@@ -57,7 +56,7 @@ slice-write-next c = room (c .before)
 is-fresh-requires : tie.Need-is-fresh-requires Inv-loop μ-loop
 is-fresh-requires c κs =
     let h = c .before .before in
-    (search needs, chain-linked (on-slot h) (c .before .before .before .before .loop .inv .1) (room h))
+    (rows-to (c .before .before .before .before .before .before .before .before .pre .0) _ (search needs), chain-linked (on-slot h) (c .before .before .before .before .loop .inv .1) (room h))
 
 same-length : tie.Need-same-length Inv-loop μ-loop
 same-length c = c .before .before .before .before .before .before .loop .inv .1 .slots

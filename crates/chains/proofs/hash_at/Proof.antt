@@ -1,18 +1,74 @@
--- `chains::hash_at` meets its contract: the key hashed is the key of the place.
+-- `chains::hash_at` meets its contract: the words that are done are mixed.
+use mathlib.Core.Path.{_≡_, refl, ap₂, sym, _∙_}
+use Prim.Native.Nat.{_+_, _-_, _≤_}
+use native.Mathlib.Omega.{arith}
+use native.Mathlib.Numerals.{add-one}
+use lib.ListN.{length}
 use borrow.Author.Needs.{needs}
-use mathlib.Core.Path.{ap, _∙_}
-use Rattle.chains.specs.Keys.{hash-of}
+use Rattle.chains.specs.Words.{row-room, mixed, blend, blend-none, blend-more, hash-row}
 use Rattle.chains.proofs.hash_at.Statement.{statement}
 use Rattle.chains.proofs.hash_at.Tie as tie
 
-key-at-requires : tie.Need-key-at-requires
-key-at-requires c κs = search needs
+abbrev Inv-loop : tie.InvT-loop
+Inv-loop mem at width words i b h₀ done₀ h done = (done ≤ words) × (b + words ≤ length mem) × (h ≡ blend mem b done)
 
-hash-requires : tie.Need-hash-requires
-hash-requires c κs = search needs
+abbrev μ-loop : tie.MeasureT-loop
+μ-loop mem at width words i b h₀ done₀ h done = words - done
 
-returns : tie.Need-returns
-returns c = c .hash .ensures ∙ ap hash-of (c .before .key-at .ensures)
+mul-b : tie.Need-mul-b Inv-loop μ-loop
+mul-b c = record { fits = omega (arith, row-room (c .before .pre) (c .before .args .i) (search needs)) }
+
+add-b : tie.Need-add-b Inv-loop μ-loop
+add-b c = record { fits = omega (arith, row-room (c .before .pre) (c .before .args .i) (search needs)) }
+
+loop-holds : tie.Need-loop-holds Inv-loop μ-loop
+loop-holds c = (search needs, row-room (c .before .pre) (c .before .args .i) (search needs), sym (blend-none _ _))
+
+add-mix : tie.Need-add-mix Inv-loop μ-loop
+add-mix c = search needs
+
+mul-mix : tie.Need-mul-mix Inv-loop μ-loop
+mul-mix c = search needs
+
+shared-slice-read-mix : tie.Need-shared-slice-read-mix Inv-loop μ-loop
+shared-slice-read-mix c = search needs
+
+mix-requires : tie.Need-mix-requires Inv-loop μ-loop
+mix-requires c κs = search needs
+
+add-done : tie.Need-add-done Inv-loop μ-loop
+add-done c = search needs
+
+loop-less : tie.Need-loop-less Inv-loop μ-loop
+loop-less c = search needs
+
+loop-again : tie.Need-loop-again Inv-loop μ-loop
+loop-again c = (search needs, c .before .before .before .loop .inv .1, rw (add-one, blend-more) (c .mix .ensures ∙ ap₂ mixed (c .before .before .before .loop .inv .2) refl))
+
+mix-requires-2 : tie.Need-mix-requires-2 Inv-loop μ-loop
+mix-requires-2 c κs = search needs
+
+returns : tie.Need-returns Inv-loop μ-loop
+unfolding hash-row
+returns c =
+    let l = c .before .before .loop in
+    let e : l .done ≡ c .before .before .before .before .args .words = omega arith in simp (c .mix2 .ensures, l .inv .2, e)
 
 pub hash-at-spec : {M : Type 1} → statement M
-hash-at-spec = tie.close (tie.spec key-at-requires hash-requires returns)
+hash-at-spec =
+    tie.close
+    (tie.spec
+    Inv-loop
+    μ-loop
+    mul-b
+    add-b
+    loop-holds
+    add-mix
+    mul-mix
+    shared-slice-read-mix
+    mix-requires
+    add-done
+    loop-less
+    loop-again
+    mix-requires-2
+    returns)

@@ -1,24 +1,17 @@
--- `chains::is_fresh` meets its contract: what the walk has passed has another key, and at its end it has passed every earlier place.
-use mathlib.Core.Path.{_≡_, ap, sym, _∙_}
-use Prim.Native.Nat.{_-_}
+-- `chains::is_fresh` meets its contract: what the walk has passed begins with other words, and at its end it has passed every earlier row.
+use mathlib.Core.Path.{sym, _∙_}
 use native.Mathlib.Omega.{arith}
 use borrow.Author.Needs.{needs}
-use Rattle.rulebook.specs.Names.{same-key}
-use Rattle.books.specs.View.{same-place, rows-of}
 use Rattle.chains.specs.Chain.{not-fresh, Walked, walk-start, walk-down, walk-step, walk-end}
-use Rattle.chains.specs.Keys.{hash-at, same-hash}
-use Rattle.store.specs.Finding.{key-at}
+use Rattle.chains.specs.Words.{same-row, hash-row, same-hash}
 use Rattle.chains.proofs.is_fresh.Statement.{statement}
 use Rattle.chains.proofs.is_fresh.Tie as tie
 
 abbrev Inv-loop : tie.InvT-loop
-Inv-loop mem next j key q₀ q = Walked (hash-at (rows-of mem)) (same-place (rows-of mem)) next j q
+Inv-loop mem at width words next j q₀ q = Walked (hash-row mem at width words) (same-row mem at width words) next j q
 
 abbrev μ-loop : tie.MeasureT-loop
-μ-loop mem next j key q₀ q = q
-
-key-at-requires : tie.Need-key-at-requires Inv-loop μ-loop
-key-at-requires c κs = search needs
+μ-loop mem at width words next j q₀ q = q
 
 mul-wide : tie.Need-mul-wide Inv-loop μ-loop
 mul-wide c = search needs
@@ -30,20 +23,18 @@ wide-requires : tie.Need-wide-requires Inv-loop μ-loop
 wide-requires c κs = search needs
 
 loop-holds : tie.Need-loop-holds Inv-loop μ-loop
-loop-holds c = rw (c .wide .ensures) (walk-start (same-hash (rows-of (c .before .before .before .before .before .args .mem .now))) (c .before .before .before .before .before .pre .1))
+loop-holds c = rw (c .wide .ensures) (walk-start (same-hash _ _ _ _) (c .before .before .before .before .pre .1))
 
 sub-k : tie.Need-sub-k Inv-loop μ-loop
 sub-k c = search needs
 
-has-key-requires : tie.Need-has-key-requires Inv-loop μ-loop
-has-key-requires c κs = search needs
-
--- what the test of a place says
-seen : (c : tie.After-has-key Inv-loop μ-loop) → c .has-key .result ≡ same-place (rows-of (c .before .before .before .before .before .before .before .before .args .mem .now)) (c .before .before .loop .q - 1) (c .before .before .before .before .before .before .before .before .args .j)
-seen c = c .has-key .ensures ∙ ap (same-key (key-at (rows-of (c .before .before .before .before .before .before .before .before .args .mem .now)) (c .before .before .loop .q - 1))) (c .before .before .before .before .before .key-at .ensures)
+same-requires : tie.Need-same-requires Inv-loop μ-loop
+same-requires c κs = search needs
 
 returns : tie.Need-returns Inv-loop μ-loop
-returns c = sym (not-fresh (same-place (rows-of (c .before .before .before .before .before .before .before .before .before .args .mem .now))) _ _ (search needs) (sym (seen (c .before)) ∙ c .if1 .taken))
+returns c =
+    let a = c .before .before .before .before .before .before .before .before .args in
+    sym (not-fresh (same-row (a .mem .now) (a .at) (a .width) (a .words)) _ _ (search needs) (sym (c .before .same .ensures) ∙ c .if1 .taken))
 
 mul-wide-2 : tie.Need-mul-wide-2 Inv-loop μ-loop
 mul-wide-2 c = search needs
@@ -58,7 +49,7 @@ loop-less : tie.Need-loop-less Inv-loop μ-loop
 loop-less c = omega (arith, c .wide2 .ensures, walk-down (c .before .before .before .before .before .loop .inv) (search needs))
 
 loop-again : tie.Need-loop-again Inv-loop μ-loop
-loop-again c = rw (c .wide2 .ensures) (walk-step (c .before .before .before .before .before .loop .inv) (search needs) (sym (seen (c .before .before .before)) ∙ c .before .before .if1 .left))
+loop-again c = rw (c .wide2 .ensures) (walk-step (c .before .before .before .before .before .loop .inv) (search needs) (sym (c .before .before .before .same .ensures) ∙ c .before .before .if1 .left))
 
 returns-2 : tie.Need-returns-2 Inv-loop μ-loop
 returns-2 c = sym (walk-end (c .before .loop .inv) (c .loop-test .left))
@@ -69,13 +60,12 @@ is-fresh-spec =
     (tie.spec
     Inv-loop
     μ-loop
-    key-at-requires
     mul-wide
     shared-slice-read-wide
     wide-requires
     loop-holds
     sub-k
-    has-key-requires
+    same-requires
     returns
     mul-wide-2
     shared-slice-read-wide-2

@@ -1,6 +1,6 @@
 -- `chains::mix` meets its contract: each half is below 2 ^ 32, and the factors' sum is too.
 use borrow.Author.Needs.{needs}
-use Rattle.chains.specs.Keys.{mixed, halves-fit}
+use Rattle.chains.specs.Words.{mixed, halves-fit}
 use Rattle.chains.proofs.mix.Statement.{statement}
 use Rattle.chains.proofs.mix.Tie as tie
 
