@@ -118,8 +118,8 @@ fn distinct_in(
     true
 }
 
-// The same with arrays of its own, for few rows.
-fn small(mem: &[u64], at: usize, width: usize, words: usize, n: usize) -> bool
+// The same with arrays of its own, for few rows: at most 512.
+pub fn few_apart(mem: &[u64], at: usize, width: usize, words: usize, n: usize) -> bool
     requires { ⌜ HasRows (now mem) at width words n ⌝ }
     requires { ⌜ n ≤ 512 ⌝ }
     ensures { λ r. ⌜ r ≡ apart (same-row (now (mem .entry)) at width words) n ⌝ }
@@ -156,7 +156,7 @@ pub fn rows_apart(mem: &[u64], at: usize, width: usize, words: usize, n: usize) 
     ensures { λ r. ⌜ r ≡ apart (same-row (now (mem .entry)) at width words) n ⌝ }
 {
     if n <= SMALL {
-        return small(mem, at, width, words, n);
+        return few_apart(mem, at, width, words, n);
     }
     if n <= MIDDLE {
         return middle(mem, at, width, words, n);

@@ -11,6 +11,7 @@ ghost use Rattle.books.specs.Writing.{group-index, symbol-index};
 ghost use Rattle.books.specs.Refining.{Counted};
 ghost use Rattle.store.specs.Finding.{mpid-word};
 ghost use Rattle.rules.specs.Passing.{group-ok, symbol-ok};
+ghost use Rattle.rules.specs.Agreeing.{request-start, order-start};
 ghost use Rattle.state.specs.Places.{same-desk, same-id, figures-right, place-ok, desk-at};
 
 const CEILING: u64 = 4_000_000_000_000_000_000;
@@ -103,4 +104,69 @@ fn find_id(mem: &[u64], hints: &mut [u16], id: u64) -> usize
     let k = store::find_symbol(mem, id);
     hints[s] = k as u16;
     k
+}
+
+// Where the request of a place begins, and where its order does.
+fn request_at(mem: &[u64], i: usize) -> usize
+    requires { ⌜ Counted (now mem) ⌝ }
+    requires { ⌜ i < room-of (now mem) ⌝ }
+    ensures { λ r. ⌜ r ≡ request-start (now (mem .entry)) i ⌝ }
+{
+    books::KEYS + store::room(mem.len()) * books::KEY_WORDS + i * books::REQUEST_WORDS
+}
+
+fn order_at(mem: &[u64], i: usize) -> usize
+    requires { ⌜ Counted (now mem) ⌝ }
+    requires { ⌜ i < room-of (now mem) ⌝ }
+    ensures { λ r. ⌜ r ≡ order-start (now (mem .entry)) i ⌝ }
+{
+    let places = store::room(mem.len());
+    books::KEYS + places * books::KEY_WORDS + places * books::REQUEST_WORDS + i * books::ORDER_WORDS
+}
+
+// Whether a place holds an order with figures in range and a listed symbol, or none and figures of 0.
+fn order_ok(mem: &[u64], ids: &mut [u16], i: usize) -> bool
+    requires { ⌜ Counted (now mem) ⌝ }
+    requires { ⌜ apart (same-id (now mem)) (head-in (rows-of (now mem)) symbols-at) ≡ true ⌝ }
+    requires { ⌜ 509 ≤ length (now ids) ⌝ }
+    requires { ⌜ i < room-of (now mem) ⌝ }
+    ensures answer { λ r. ⌜ r ≡ figures-right (now (mem .entry)) i ⌝ }
+    ensures hints { λ _. ⌜ length (now (ids .exit)) ≡ length (now (ids .entry)) ⌝ }
+{
+    let b = request_at(mem, i);
+    let o = order_at(mem, i);
+    if !rules::opens(mem, b) {
+        return rules::no_figures(mem, o);
+    }
+    if !rules::figures_ok(mem, o) {
+        return false;
+    }
+    find_id(mem, ids, mem[b + books::SYMBOL]) < mem[books::SYMBOLS_LISTED] as usize
+}
+
+// Whether a taken place's request is in range, and so is its order.
+fn place_ok(mem: &[u64], ids: &mut [u16], i: usize) -> bool
+    requires { ⌜ Counted (now mem) ⌝ }
+    requires { ⌜ apart (same-id (now mem)) (head-in (rows-of (now mem)) symbols-at) ≡ true ⌝ }
+    requires { ⌜ 509 ≤ length (now ids) ⌝ }
+    requires { ⌜ i < room-of (now mem) ⌝ }
+    ensures answer { λ r. ⌜ r ≡ place-ok (now (mem .entry)) i ⌝ }
+    ensures hints { λ _. ⌜ length (now (ids .exit)) ≡ length (now (ids .entry)) ⌝ }
+{
+    if !rules::request_ok(mem, i, request_at(mem, i)) {
+        return false;
+    }
+    order_ok(mem, ids, i)
+}
+
+// The place among the groups of a taken place's owner, or how many groups are listed.
+fn desk_of(mem: &[u64], desks: &mut [u16], i: usize) -> usize
+    requires { ⌜ Counted (now mem) ⌝ }
+    requires { ⌜ apart (same-desk (now mem)) (head-in (rows-of (now mem)) groups-at) ≡ true ⌝ }
+    requires { ⌜ 127 ≤ length (now desks) ⌝ }
+    requires { ⌜ i < room-of (now mem) ⌝ }
+    ensures index { λ r. ⌜ r ≡ desk-at (now (mem .entry)) i ⌝ }
+    ensures hints { λ _. ⌜ length (now (desks .exit)) ≡ length (now (desks .entry)) ⌝ }
+{
+    find_desk(mem, desks, mem[books::KEYS + i * books::KEY_WORDS + books::OWNER])
 }

@@ -37,7 +37,7 @@ shared-slice-read-if2 : tie.Need-shared-slice-read-if2
 shared-slice-read-if2 c = search needs
 
 returns : tie.Need-returns
-returns c = (desk-hint _ _ _ (c .before .before .before .before .before .before .before .before .pre .1 .0) (c .before .before .if1 .taken) (c .if2 .taken), refl)
+returns c = (desk-hint (c .before .before .before .before .before .before .before .before .args .mem .now) _ _ (c .before .before .before .before .before .before .before .before .pre .1 .0) (c .before .before .if1 .taken) (c .if2 .taken), refl)
 
 find-group-requires : tie.Need-find-group-requires
 find-group-requires c κs = search needs

@@ -36,7 +36,7 @@ shared-slice-read-if2 : tie.Need-shared-slice-read-if2
 shared-slice-read-if2 c = search needs
 
 returns : tie.Need-returns
-returns c = (id-hint _ _ _ (c .before .before .before .before .before .before .before .before .pre .1 .0) (c .before .before .if1 .taken) (c .if2 .taken), refl)
+returns c = (id-hint (c .before .before .before .before .before .before .before .before .args .mem .now) _ _ (c .before .before .before .before .before .before .before .before .pre .1 .0) (c .before .before .if1 .taken) (c .if2 .taken), refl)
 
 find-symbol-requires : tie.Need-find-symbol-requires
 find-symbol-requires c κs = search needs

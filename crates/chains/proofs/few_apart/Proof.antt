@@ -1,10 +1,10 @@
--- `chains::small` meets its contract: the arrays are made clear, and long enough.
+-- `chains::few_apart` meets its contract: the arrays are made clear, and long enough.
 use Prim.{tt}
 use lib.Dec.{lit<}
 use borrow.Author.Needs.{needs}
 use Rattle.chains.specs.Chain.{clear}
-use Rattle.chains.proofs.small.Statement.{statement}
-use Rattle.chains.proofs.small.Tie as tie
+use Rattle.chains.proofs.few_apart.Statement.{statement}
+use Rattle.chains.proofs.few_apart.Tie as tie
 
 slice-aggregate-distinct-in : tie.Need-slice-aggregate-distinct-in
 slice-aggregate-distinct-in c = search needs
@@ -18,8 +18,8 @@ distinct-in-requires c κs = (c .before .before .before .pre .0, clear 1024 512 
 returns : tie.Need-returns
 returns c = search needs
 
-pub small-spec : {M : Type 1} → statement M
-small-spec =
+pub few-apart-spec : {M : Type 1} → statement M
+few-apart-spec =
     tie.close
     (tie.spec
     slice-aggregate-distinct-in
