@@ -10,18 +10,25 @@ use native.Mathlib.Numerals.{add-one}
 use lib.Dec.{leb, eqb}
 use lib.ListN.{length, getD, set, replicate, getD-replicate, length-replicate, length-set}
 use lib.Seq.{getD-set-same, getD-set-other}
-use borrow.Author.Tests.{eqb-true, eqb-false, eq-eqb, ne-eqb}
+use borrow.Author.Tests.{leb-true, eqb-true, eqb-false, eq-eqb, ne-eqb}
 use Rattle.laws.specs.Tests.{on}
 use Rattle.laws.specs.Tables.{sum}
-use Rattle.laws.specs.Numbered.{apart, apart-each, every, every-no, total, total-none, total-more, total-grows, sum-those}
+use Rattle.laws.specs.Numbered.{apart, apart-each, every, every-no, total, total-none, total-more, total-grows, sum-those, least-is}
+use Rattle.laws.specs.Checks.{rules-read}
 use Rattle.laws.specs.Rows.{Sheet}
 use Rattle.rulebook.specs.Names.{same-mpid, mpid-exact}
-use Rattle.rulebook.specs.Lines.{ceiling, is-buy}
+use Rattle.rulebook.specs.Lines.{ceiling, buy, sell, short, exempt, is-buy}
+use Rattle.rulebook.specs.Cases.{in-range}
 use Rattle.rulebook.specs.Kept.{open-value, is-of, worth}
 use Rattle.books.specs.Layout.{groups, requests, orders, groups-at, places-at, mpid-at, side-at, open-buys-at, open-sells-at, order-price-at, order-size-at, done-at}
 use Rattle.books.specs.View.{mpid-in, head-in, rows-of, opens-of, order-of, orders-in}
+use Rattle.books.specs.Writing.{group-index}
+use Rattle.books.specs.Refining.{Counted}
+use Rattle.fields.specs.Series.{side-of}
+use Rattle.rules.specs.Passing.{word-at, figures-ok}
+use Rattle.rules.specs.Agreeing.{order-start}
 use Rattle.rules.specs.Testing.{sums-are}
-use Rattle.state.specs.Places.{same-desk}
+use Rattle.state.specs.Places.{same-desk, figures-right, place-ok, desk-at}
 
 -- what the j-th place counts for a group's buys (true) or sells
 abbrev pub part-at : Sheet → ℕ → Bool → ℕ → ℕ
@@ -124,9 +131,17 @@ side-broken S g true most h = rw (ne-eqb (S groups g open-buys-at) (sum (worth (
 side-broken S g false most h = rw (ne-eqb (S groups g open-sells-at) (sum (worth (mpid-in (S groups g)) false) (orders-in S)) (λ e. omega (arith, most .1, sums-read S g false)))
     (on (λ t. (t && false) ≡ false) (eqb (S groups g open-buys-at) (sum (worth (mpid-in (S groups g)) true) (orders-in S))) (λ q. refl) (λ q. refl))
 
-module _ (m : List ℕ) (sums : List ℕ) (i k v : ℕ) (s : Sums (rows-of m) sums i) (few : head-in (rows-of m) groups-at ≤ 64)
-    (lt : k < head-in (rows-of m) groups-at) (own : rows-of m groups k mpid-at ≡ order-of (rows-of m) i .ticket .key .owner .mpid .code)
-    (alone : apart (same-desk m) (head-in (rows-of m) groups-at) ≡ true) (opened : opens-of (rows-of m) i ≡ true) (is : v ≡ open-value (order-of (rows-of m) i)) where
+-- an order's value is to be added to its owner's total
+pub record Adding (m sums : List ℕ) (i k v : ℕ) : Type 0 where
+  pub so-far : Sums (rows-of m) sums i
+  pub few : head-in (rows-of m) groups-at ≤ 64
+  pub lt : k < head-in (rows-of m) groups-at
+  pub own : rows-of m groups k mpid-at ≡ order-of (rows-of m) i .ticket .key .owner .mpid .code
+  pub alone : apart (same-desk m) (head-in (rows-of m) groups-at) ≡ true
+  pub holds : opens-of (rows-of m) i ≡ true
+  pub is : v ≡ open-value (order-of (rows-of m) i)
+
+module _ (m sums : List ℕ) (i k v : ℕ) (a : Adding m sums i k v) where
   abbrev S : Sheet
   S = rows-of m
 
@@ -135,23 +150,27 @@ module _ (m : List ℕ) (sums : List ℕ) (i k v : ℕ) (s : Sums (rows-of m) su
 
   value : part-at S k b i ≡ v
   unfolding worth
-  value = rw (opened, eq-eqb (S groups k mpid-at) (order-of S i .ticket .key .owner .mpid .code) own, same-bool b) (sym is)
+  value = rw (a .holds, eq-eqb (S groups k mpid-at) (order-of S i .ticket .key .owner .mpid .code) (a .own), same-bool b) (sym (a .is))
 
   sum-after : part S k b (i + 1) ≡ getD sums (slot k b) 0 + v
-  sum-after = omega (arith, part-more S k b i, s .each k b lt, value)
+  sum-after = omega (arith, part-more S k b i, a .so-far .each k b (a .lt), value)
+
+  -- what is kept so far, and with the value
+  pub sum-small : getD sums (slot k b) 0 ≤ ceiling
+  sum-small = omega (arith, a .so-far .each k b (a .lt), a .so-far .within k b (a .lt))
 
   pub sums-over : ceiling < getD sums (slot k b) 0 + v → Over S (i + 1)
-  sums-over h = record { at = k; side = b; listed = lt; more = omega (arith, sum-after) }
+  sums-over h = record { at = k; side = b; listed = a .lt; more = omega (arith, sum-after) }
 
   -- another group's, or the other side's
   other-desk : (g : ℕ) → (g ≡ k → ⊥) → g < head-in S groups-at → same-mpid (mpid-in (S groups g)) (order-of S i .ticket .key .owner .mpid) ≡ false
   other-desk g ne h = ne-eqb (S groups g mpid-at) (order-of S i .ticket .key .owner .mpid .code) (λ e. elim (decLt g k) [
-      | yes p ↦ clash g k p lt (e ∙ sym own)
-      | no np ↦ clash k g (let q : k < g = omega (arith, np, ne) in q) h (own ∙ sym e)
+      | yes p ↦ clash g k p (a .lt) (e ∙ sym (a .own))
+      | no np ↦ clash k g (let q : k < g = omega (arith, np, ne) in q) h (a .own ∙ sym e)
     ])
     where
       clash : (p q : ℕ) → p < q → q < head-in S groups-at → S groups p mpid-at ≡ S groups q mpid-at → ⊥
-      clash p q l n e = false≢true (sym (apart-each (same-desk m) (head-in S groups-at) alone p q l n) ∙ eq-eqb (S groups p mpid-at) (S groups q mpid-at) e)
+      clash p q l n e = false≢true (sym (apart-each (same-desk m) (head-in S groups-at) (a .alone) p q l n) ∙ eq-eqb (S groups p mpid-at) (S groups q mpid-at) e)
 
   kept-desk : (g : ℕ) (c : Bool) → (g ≡ k → ⊥) → g < head-in S groups-at → part S g c (i + 1) ≡ part S g c i
   kept-desk g c ne h = let z = not-worth S g c i (rw (other-desk g ne h) refl) in omega (arith, part-more S g c i, z)
@@ -160,28 +179,28 @@ module _ (m : List ℕ) (sums : List ℕ) (i k v : ℕ) (s : Sums (rows-of m) su
   other-side c e = let z = not-worth S k c i (rw e (on (λ t. (t && false) ≡ false) (same-mpid (mpid-in (S groups k)) (order-of S i .ticket .key .owner .mpid)) (λ q. refl) (λ q. refl))) in omega (arith, part-more S k c i, z)
 
   pub sums-add : getD sums (slot k b) 0 + v ≤ ceiling → Sums S (set sums (slot k b) (getD sums (slot k b) 0 + v)) (i + 1)
-  sums-add le = record { long = simp length-set (s .long); each = λ g c h. one g c h .0; within = λ g c h. one g c h .1 }
+  sums-add le = record { long = simp length-set (a .so-far .long); each = λ g c h. one g c h .0; within = λ g c h. one g c h .1 }
     where
       new : List ℕ
       new = set sums (slot k b) (getD sums (slot k b) 0 + v)
 
       elsewhere : (g : ℕ) (c : Bool) → g < head-in S groups-at → (slot g c ≡ slot k b → ⊥) → part S g c (i + 1) ≡ part S g c i → (getD new (slot g c) 0 ≡ part S g c (i + 1)) × (part S g c (i + 1) ≤ ceiling)
-      elsewhere g c h ne kept = (getD-set-other sums (slot k b) (slot g c) (getD sums (slot k b) 0 + v) 0 ne ∙ s .each g c h ∙ sym kept, omega (arith, s .within g c h, kept))
+      elsewhere g c h ne kept = (getD-set-other sums (slot k b) (slot g c) (getD sums (slot k b) 0 + v) 0 ne ∙ a .so-far .each g c h ∙ sym kept, omega (arith, a .so-far .within g c h, kept))
 
       here : (getD new (slot k b) 0 ≡ part S k b (i + 1)) × (part S k b (i + 1) ≤ ceiling)
       here = (getD-set-same sums (slot k b) (getD sums (slot k b) 0 + v) 0 (small b) ∙ sym sum-after, omega (arith, sum-after))
         where
           small : (b : Bool) → slot k b < length sums
-          small true = omega (arith, s .long)
-          small false = omega (arith, s .long)
+          small true = omega (arith, a .so-far .long, a .few, a .lt)
+          small false = omega (arith, a .so-far .long, a .few, a .lt)
 
       one : (g : ℕ) (c : Bool) → g < head-in S groups-at → (getD new (slot g c) 0 ≡ part S g c (i + 1)) × (part S g c (i + 1) ≤ ceiling)
       one g c h = on (λ t. eqb g k ≡ t → (getD new (slot g c) 0 ≡ part S g c (i + 1)) × (part S g c (i + 1) ≤ ceiling)) (eqb g k)
           (λ z e. subst (λ g. (getD new (slot g c) 0 ≡ part S g c (i + 1)) × (part S g c (i + 1) ≤ ceiling)) (sym (eqb-true g k e))
           (on (λ t. Bool·beq c b ≡ t → (getD new (slot k c) 0 ≡ part S k c (i + 1)) × (part S k c (i + 1) ≤ ceiling)) (Bool·beq c b)
           (λ z q. subst (λ c. (getD new (slot k c) 0 ≡ part S k c (i + 1)) × (part S k c (i + 1) ≤ ceiling)) (sym (beq-same c b q)) here)
-          (λ z q. elsewhere k c lt (sides-apart k c b q) (other-side c q)) refl))
-          (λ z e. elsewhere g c h (slots-apart g k c b (omega (arith, few, h)) (omega (arith, few, lt)) (eqb-false g k e)) (kept-desk g c (eqb-false g k e) h)) refl
+          (λ z q. elsewhere k c (a .lt) (sides-apart k c b q) (other-side c q)) refl))
+          (λ z e. elsewhere g c h (slots-apart g k c b (omega (arith, a .few, h)) (omega (arith, a .few, a .lt)) (eqb-false g k e)) (kept-desk g c (eqb-false g k e) h)) refl
 
 -- ── at the end of the pass ──
 -- a total above the ceiling is no stored one
@@ -192,3 +211,56 @@ sums-broken S most o = every-no (sums-are S) (head-in S groups-at) (o .at) (o .l
 pub sums-compared : (S : Sheet) (sums : List ℕ) → Sums S sums (head-in S places-at) → (g : ℕ) → g < head-in S groups-at → sums-are S g ≡ (eqb (S groups g open-buys-at) (getD sums g 0) && eqb (S groups g open-sells-at) (getD sums (64 + g) 0))
 unfolding sums-are
 sums-compared S sums s g lt = rw (s .each g true lt, s .each g false lt, sums-read S g true, sums-read S g false) refl
+
+-- ── an order's value in the code ──
+-- an order's words are there, and in range
+pub record Priced (m : List ℕ) (b : ℕ) : Type 0 where
+  pub room : b + 4 ≤ length m
+  pub done-most : word-at m b done-at ≤ word-at m b order-size-at
+  pub value-most : (word-at m b order-size-at - word-at m b done-at) * word-at m b order-price-at ≤ 999_999_999_999_000_000
+
+unfoldable pub value-at : List ℕ → ℕ → ℕ
+value-at m b = (word-at m b order-size-at - word-at m b done-at) * word-at m b order-price-at
+
+-- the i-th place is taken and in range, and the k-th group is its owner's
+pub record Due (m : List ℕ) (i k : ℕ) : Type 0 where
+  pub taken : i < head-in (rows-of m) places-at
+  pub fine : place-ok m i ≡ true
+  pub desk : k ≡ desk-at m i
+  pub listed : k < head-in (rows-of m) groups-at
+  pub alone : apart (same-desk m) (head-in (rows-of m) groups-at) ≡ true
+
+pub buy-read : (c : ℕ) → is-buy (side-of c) ≡ eqb c 66
+buy-read c = on (λ t. is-buy (cond t buy (cond (eqb c 83) sell (cond (eqb c 72) short exempt))) ≡ t) (eqb c 66) (λ e. refl)
+    (λ e. on (λ t. is-buy (cond t sell (cond (eqb c 72) short exempt)) ≡ false) (eqb c 83) (λ e. refl) (λ e. on (λ t. is-buy (cond t short exempt) ≡ false) (eqb c 72) (λ e. refl) (λ e. refl)))
+
+-- the figures of an order that is in range
+figures-at : (m : List ℕ) (i : ℕ) → place-ok m i ≡ true → opens-of (rows-of m) i ≡ true → figures-ok m (order-start m i) ≡ true
+unfolding place-ok figures-right
+figures-at m i e q = rules-read _ (rw q at (rules-read _ e .1 .0)) .0
+
+pub priced : (m : List ℕ) (i : ℕ) → Counted m → i < head-in (rows-of m) places-at → place-ok m i ≡ true → opens-of (rows-of m) i ≡ true → Priced m (order-start m i)
+unfolding figures-ok
+priced m i c lt e q =
+    let w = rules-read _ (figures-at m i e q) in
+    let p = in-range 1 999_999_999_999 (word-at m (order-start m i) order-price-at) (w .0) in
+    let z = in-range 1 1_000_000 (word-at m (order-start m i) order-size-at) (w .1 .0) in
+    record { room = omega (arith, c .whole, c .few-places); done-most = leb-true _ _ (w .1 .1 .1 .0); value-most = mul-le-mul {n₂ = 1_000_000} (omega (arith, z .1)) (p .1) }
+
+-- is what the books say of it
+pub value-is : (m : List ℕ) (i : ℕ) → value-at m (order-start m i) ≡ open-value (order-of (rows-of m) i)
+unfolding value-at open-value
+value-is m i = refl
+
+pub value-small : (m : List ℕ) (b : ℕ) → Priced m b → value-at m b ≤ 999_999_999_999_000_000
+unfolding value-at
+value-small m b p = p .value-most
+
+-- the owner's group has the owner's MPID
+pub desk-owns : (m : List ℕ) (i k : ℕ) → k ≡ desk-at m i → k < head-in (rows-of m) groups-at → rows-of m groups k mpid-at ≡ order-of (rows-of m) i .ticket .key .owner .mpid .code
+unfolding group-index
+desk-owns m i k e lt = sym (eqb-true _ _ (subst (λ k. k < head-in (rows-of m) groups-at → same-mpid (order-of (rows-of m) i .ticket .key .owner .mpid) (mpid-in (rows-of m groups k)) ≡ true) (sym e)
+    (least-is (λ j. same-mpid (order-of (rows-of m) i .ticket .key .owner .mpid) (mpid-in (rows-of m groups j))) (head-in (rows-of m) groups-at) .here) lt))
+
+pub adding : (m sums : List ℕ) (i k v : ℕ) → Counted m → Due m i k → Sums (rows-of m) sums i → opens-of (rows-of m) i ≡ true → v ≡ open-value (order-of (rows-of m) i) → Adding m sums i k v
+adding m sums i k v c d s q e = record { so-far = s; few = c .few-groups; lt = d .listed; own = desk-owns m i k (d .desk) (d .listed); alone = d .alone; holds = q; is = e }

@@ -12,6 +12,9 @@ ghost use Rattle.books.specs.Refining.{Counted};
 ghost use Rattle.store.specs.Finding.{mpid-word};
 ghost use Rattle.rules.specs.Passing.{group-ok, symbol-ok};
 ghost use Rattle.rules.specs.Agreeing.{request-start, order-start};
+ghost use Rattle.rulebook.specs.Lines.{is-buy};
+ghost use Rattle.fields.specs.Series.{side-of};
+ghost use Rattle.state.specs.Summing.{Sums, Added, Due, Priced, value-at, slot};
 ghost use Rattle.state.specs.Places.{same-desk, same-id, figures-right, place-ok, desk-at};
 
 const CEILING: u64 = 4_000_000_000_000_000_000;
@@ -169,4 +172,45 @@ fn desk_of(mem: &[u64], desks: &mut [u16], i: usize) -> usize
     ensures hints { λ _. ⌜ length (now (desks .exit)) ≡ length (now (desks .entry)) ⌝ }
 {
     find_desk(mem, desks, mem[books::KEYS + i * books::KEY_WORDS + books::OWNER])
+}
+
+// What an order, at b, has open: remaining x price.
+fn value_of(mem: &[u64], b: usize) -> u64
+    requires { ⌜ Priced (now mem) b ⌝ }
+    ensures { λ r. ⌜ r ≡ value-at (now (mem .entry)) b ⌝ }
+{
+    (mem[b + books::ORDER_SIZE] - mem[b + books::DONE]) * mem[b + books::ORDER_PRICE]
+}
+
+// Where a group's total of this side is kept: buys first, and then sells.
+fn slot_of(k: usize, side: u64) -> usize
+    requires { ⌜ k < 64 ⌝ }
+    ensures slot { λ r. ⌜ r ≡ slot k (is-buy (side-of side)) ⌝ }
+    ensures small { λ r. ⌜ r < 128 ⌝ }
+{
+    if side == BUY {
+        return k;
+    }
+    books::MOST_GROUPS + k
+}
+
+// The open value of the i-th place is added to its group's, which is the k-th. False where that passes the ceiling.
+fn add_value(mem: &[u64], i: usize, k: usize, sums: &mut [u64]) -> bool
+    requires { ⌜ Counted (now mem) ⌝ }
+    requires { ⌜ Due (now mem) i k ⌝ }
+    requires { ⌜ Sums (rows-of (now mem)) (now sums) i ⌝ }
+    ensures { λ r. ⌜ Added (rows-of (now (mem .entry))) (now (sums .exit)) (i + 1) r ⌝ }
+{
+    let b = request_at(mem, i);
+    if !rules::opens(mem, b) {
+        return true;
+    }
+    let v = value_of(mem, order_at(mem, i));
+    let s = slot_of(k, mem[b + books::SIDE]);
+    let t = sums[s] + v;
+    if t > CEILING {
+        return false;
+    }
+    sums[s] = t;
+    true
 }
