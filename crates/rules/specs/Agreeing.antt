@@ -47,7 +47,7 @@ yes-no-fits true = refl
 yes-no-fits false = refl
 
 -- "before O": the code's way to say it
-early-is : (opened : ℕ) (b : Bool) → early opened b ≡ (flag opened || b)
+pub early-is : (opened : ℕ) (b : Bool) → early opened b ≡ (flag opened || b)
 unfolding early
 early-is n b = on (λ t. cond t true b ≡ (t || b)) (flag n) (λ e. refl) (λ e. refl)
 

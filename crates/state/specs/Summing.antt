@@ -165,9 +165,9 @@ module _ (m sums : List ℕ) (i k v : ℕ) (a : Adding m sums i k v) where
   -- another group's, or the other side's
   other-desk : (g : ℕ) → (g ≡ k → ⊥) → g < head-in S groups-at → same-mpid (mpid-in (S groups g)) (order-of S i .ticket .key .owner .mpid) ≡ false
   other-desk g ne h = ne-eqb (S groups g mpid-at) (order-of S i .ticket .key .owner .mpid .code) (λ e. elim (decLt g k) [
-      | yes p ↦ clash g k p (a .lt) (e ∙ sym (a .own))
-      | no np ↦ clash k g (let q : k < g = omega (arith, np, ne) in q) h (a .own ∙ sym e)
-    ])
+    | yes p ↦ clash g k p (a .lt) (e ∙ sym (a .own))
+    | no np ↦ clash k g (let q : k < g = omega (arith, np, ne) in q) h (a .own ∙ sym e)
+  ])
     where
       clash : (p q : ℕ) → p < q → q < head-in S groups-at → S groups p mpid-at ≡ S groups q mpid-at → ⊥
       clash p q l n e = false≢true (sym (apart-each (same-desk m) (head-in S groups-at) (a .alone) p q l n) ∙ eq-eqb (S groups p mpid-at) (S groups q mpid-at) e)

@@ -10,11 +10,13 @@ ghost use Rattle.books.specs.View.{head-in, rows-of, asked-of};
 ghost use Rattle.books.specs.Writing.{group-index, symbol-index};
 ghost use Rattle.books.specs.Refining.{Counted};
 ghost use Rattle.store.specs.Finding.{mpid-word};
+ghost use Rattle.rules.specs.Testing.{state-ok, sums-are};
 ghost use Rattle.rules.specs.Passing.{group-ok, symbol-ok};
 ghost use Rattle.rules.specs.Agreeing.{request-start, order-start};
 ghost use Rattle.rulebook.specs.Lines.{is-buy};
 ghost use Rattle.fields.specs.Series.{side-of};
 ghost use Rattle.state.specs.Summing.{Sums, Added, Due, Priced, value-at, slot};
+ghost use Rattle.state.specs.Whole.{Listed, Tallied, table-ok, listed-ok};
 ghost use Rattle.state.specs.Places.{same-desk, same-id, figures-right, place-ok, desk-at};
 
 const CEILING: u64 = 4_000_000_000_000_000_000;
@@ -74,8 +76,7 @@ fn find_desk(mem: &[u64], hints: &mut [u16], mpid: u64) -> usize
     requires { ⌜ Counted (now mem) ⌝ }
     requires { ⌜ apart (same-desk (now mem)) (head-in (rows-of (now mem)) groups-at) ≡ true ⌝ }
     requires { ⌜ 127 ≤ length (now hints) ⌝ }
-    ensures index { λ r. ⌜ r ≡ group-index (rows-of (now (mem .entry))) (mpid-word mpid) ⌝ }
-    ensures hints { λ _. ⌜ length (now (hints .exit)) ≡ length (now (hints .entry)) ⌝ }
+    ensures { λ r. ⌜ r ≡ group-index (rows-of (now (mem .entry))) (mpid-word mpid) ⌝ }
 {
     let s = (mpid % DESK_SPREAD) as usize;
     let g = wide(hints[s]);
@@ -94,8 +95,7 @@ fn find_id(mem: &[u64], hints: &mut [u16], id: u64) -> usize
     requires { ⌜ Counted (now mem) ⌝ }
     requires { ⌜ apart (same-id (now mem)) (head-in (rows-of (now mem)) symbols-at) ≡ true ⌝ }
     requires { ⌜ 509 ≤ length (now hints) ⌝ }
-    ensures index { λ r. ⌜ r ≡ symbol-index (rows-of (now (mem .entry))) id ⌝ }
-    ensures hints { λ _. ⌜ length (now (hints .exit)) ≡ length (now (hints .entry)) ⌝ }
+    ensures { λ r. ⌜ r ≡ symbol-index (rows-of (now (mem .entry))) id ⌝ }
 {
     let s = (id % ID_SPREAD) as usize;
     let g = wide(hints[s]);
@@ -133,8 +133,7 @@ fn order_ok(mem: &[u64], ids: &mut [u16], i: usize) -> bool
     requires { ⌜ apart (same-id (now mem)) (head-in (rows-of (now mem)) symbols-at) ≡ true ⌝ }
     requires { ⌜ 509 ≤ length (now ids) ⌝ }
     requires { ⌜ i < room-of (now mem) ⌝ }
-    ensures answer { λ r. ⌜ r ≡ figures-right (now (mem .entry)) i ⌝ }
-    ensures hints { λ _. ⌜ length (now (ids .exit)) ≡ length (now (ids .entry)) ⌝ }
+    ensures { λ r. ⌜ r ≡ figures-right (now (mem .entry)) i ⌝ }
 {
     let b = request_at(mem, i);
     let o = order_at(mem, i);
@@ -153,8 +152,7 @@ fn place_ok(mem: &[u64], ids: &mut [u16], i: usize) -> bool
     requires { ⌜ apart (same-id (now mem)) (head-in (rows-of (now mem)) symbols-at) ≡ true ⌝ }
     requires { ⌜ 509 ≤ length (now ids) ⌝ }
     requires { ⌜ i < room-of (now mem) ⌝ }
-    ensures answer { λ r. ⌜ r ≡ place-ok (now (mem .entry)) i ⌝ }
-    ensures hints { λ _. ⌜ length (now (ids .exit)) ≡ length (now (ids .entry)) ⌝ }
+    ensures { λ r. ⌜ r ≡ place-ok (now (mem .entry)) i ⌝ }
 {
     if !rules::request_ok(mem, i, request_at(mem, i)) {
         return false;
@@ -168,10 +166,13 @@ fn desk_of(mem: &[u64], desks: &mut [u16], i: usize) -> usize
     requires { ⌜ apart (same-desk (now mem)) (head-in (rows-of (now mem)) groups-at) ≡ true ⌝ }
     requires { ⌜ 127 ≤ length (now desks) ⌝ }
     requires { ⌜ i < room-of (now mem) ⌝ }
-    ensures index { λ r. ⌜ r ≡ desk-at (now (mem .entry)) i ⌝ }
-    ensures hints { λ _. ⌜ length (now (desks .exit)) ≡ length (now (desks .entry)) ⌝ }
+    ensures { λ r. ⌜ r ≡ desk-at (now (mem .entry)) i ⌝ }
 {
-    find_desk(mem, desks, mem[books::KEYS + i * books::KEY_WORDS + books::OWNER])
+    find_desk(
+        mem,
+        desks,
+        mem[books::KEYS + i * books::KEY_WORDS + books::OWNER],
+    )
 }
 
 // What an order, at b, has open: remaining x price.
@@ -213,4 +214,119 @@ fn add_value(mem: &[u64], i: usize, k: usize, sums: &mut [u64]) -> bool
     }
     sums[s] = t;
     true
+}
+
+// Every taken place tried, its owner found and its open value added. False where a place is not in range, its owner not listed, or a total above the ceiling.
+fn tally(mem: &[u64], desks: &mut [u16], ids: &mut [u16], sums: &mut [u64]) -> bool
+    requires { ⌜ Listed (now mem) ⌝ }
+    requires { ⌜ 127 ≤ length (now desks) ⌝ }
+    requires { ⌜ 509 ≤ length (now ids) ⌝ }
+    requires { ⌜ Sums (rows-of (now mem)) (now sums) 0 ⌝ }
+    ensures { λ r. ⌜ Tallied (now (mem .entry)) (now (sums .exit)) r ⌝ }
+{
+    let n = mem[books::PLACES_TAKEN] as usize;
+    let mut i = 0;
+    while i < n {
+        let k = desk_of(mem, desks, i);
+        if k >= mem[books::GROUPS_LISTED] as usize {
+            return false;
+        }
+        if !place_ok(mem, ids, i) {
+            return false;
+        }
+        if !add_value(mem, i, k, sums) {
+            return false;
+        }
+        i += 1;
+    }
+    true
+}
+
+// Whether each group's stored open values are the sums.
+fn sums_same(mem: &[u64], sums: &[u64]) -> bool
+    requires { ⌜ Counted (now mem) ⌝ }
+    requires { ⌜ Sums (rows-of (now mem)) (now sums) (head-in (rows-of (now mem)) places-at) ⌝ }
+    ensures { λ r. ⌜ r ≡ every (sums-are (rows-of (now (mem .entry)))) (head-in (rows-of (now (mem .entry))) groups-at) ⌝ }
+{
+    let n = mem[books::GROUPS_LISTED] as usize;
+    let mut g = 0;
+    while g < n {
+        let b = books::GROUPS + g * books::GROUP_WORDS;
+        if mem[b + books::OPEN_BUYS] != sums[g] {
+            return false;
+        }
+        if mem[b + books::OPEN_SELLS] != sums[books::MOST_GROUPS + g] {
+            return false;
+        }
+        g += 1;
+    }
+    true
+}
+
+// Whether every taken place is in range and its owner listed, and the open values are the sums over the table.
+fn table_ok(mem: &[u64]) -> bool
+    requires { ⌜ Listed (now mem) ⌝ }
+    ensures { λ r. ⌜ r ≡ table-ok (now (mem .entry)) ⌝ }
+{
+    let mut desks = [0u16; DESK_HINTS];
+    let mut ids = [0u16; ID_HINTS];
+    let mut sums = [0u64; 2 * books::MOST_GROUPS];
+    if !tally(mem, &mut desks, &mut ids, &mut sums) {
+        return false;
+    }
+    sums_same(mem, &sums)
+}
+
+// Whether the listed groups and symbols are in range, and no two of either the same.
+fn listed_ok(mem: &[u64]) -> bool
+    requires { ⌜ Counted (now mem) ⌝ }
+    ensures { λ r. ⌜ r ≡ listed-ok (now (mem .entry)) ⌝ }
+{
+    if !groups_ok(mem) {
+        return false;
+    }
+    if !symbols_ok(mem) {
+        return false;
+    }
+    if !chains::few_apart(
+        mem,
+        books::GROUPS,
+        books::GROUP_WORDS,
+        1,
+        mem[books::GROUPS_LISTED] as usize,
+    ) {
+        return false;
+    }
+    chains::few_apart(
+        mem,
+        books::SYMBOLS,
+        books::SYMBOL_WORDS,
+        1,
+        mem[books::SYMBOLS_LISTED] as usize,
+    )
+}
+
+// Whether the lent memory meets every state rule and is long enough for groups and symbols: where not, the answer is 22.
+pub fn state_ok(mem: &[u64]) -> bool
+    ensures { λ r. ⌜ r ≡ state-ok (now (mem .entry)) ⌝ }
+{
+    if mem.len() < books::LEAST_WORDS {
+        return false;
+    }
+    if !rules::head_ok(mem) {
+        return false;
+    }
+    if !listed_ok(mem) {
+        return false;
+    }
+    if !table_ok(mem) {
+        return false;
+    }
+    chains::rows_apart(
+        mem,
+        books::KEYS,
+        books::KEY_WORDS,
+        books::KEY_WORDS,
+        mem[books::PLACES_TAKEN] as usize,
+    )
 }

@@ -1,7 +1,6 @@
 -- `state::find_desk` meets its contract: a hint that is right is where the search would end.
 use borrow.Author.Needs.{needs}
 use Rattle.state.proofs.find_desk.Statement.{statement}
-use mathlib.Core.Path.{refl}
 use Prim.Native.Nat.{_-_}
 use native.Mathlib.Omega.{arith}
 use Rattle.books.specs.View.{rows-of}
@@ -37,7 +36,7 @@ shared-slice-read-if2 : tie.Need-shared-slice-read-if2
 shared-slice-read-if2 c = search needs
 
 returns : tie.Need-returns
-returns c = (desk-hint (c .before .before .before .before .before .before .before .before .args .mem .now) _ _ (c .before .before .before .before .before .before .before .before .pre .1 .0) (c .before .before .if1 .taken) (c .if2 .taken), refl)
+returns c = desk-hint (c .before .before .before .before .before .before .before .before .args .mem .now) _ _ (c .before .before .before .before .before .before .before .before .pre .1 .0) (c .before .before .if1 .taken) (c .if2 .taken)
 
 find-group-requires : tie.Need-find-group-requires
 find-group-requires c κs = search needs

@@ -1,7 +1,6 @@
 -- `state::find_id` meets its contract: a hint that is right is where the search would end.
 use borrow.Author.Needs.{needs}
 use Rattle.state.proofs.find_id.Statement.{statement}
-use mathlib.Core.Path.{refl}
 use Prim.Native.Nat.{_-_}
 use native.Mathlib.Omega.{arith}
 use Rattle.books.specs.View.{rows-of}
@@ -36,7 +35,7 @@ shared-slice-read-if2 : tie.Need-shared-slice-read-if2
 shared-slice-read-if2 c = search needs
 
 returns : tie.Need-returns
-returns c = (id-hint (c .before .before .before .before .before .before .before .before .args .mem .now) _ _ (c .before .before .before .before .before .before .before .before .pre .1 .0) (c .before .before .if1 .taken) (c .if2 .taken), refl)
+returns c = id-hint (c .before .before .before .before .before .before .before .before .args .mem .now) _ _ (c .before .before .before .before .before .before .before .before .pre .1 .0) (c .before .before .if1 .taken) (c .if2 .taken)
 
 find-symbol-requires : tie.Need-find-symbol-requires
 find-symbol-requires c κs = search needs

@@ -1,7 +1,7 @@
 -- `state::order_ok` meets its contract: the place holds an order exactly where its request is a passed N.
 use borrow.Author.Needs.{needs}
 use Rattle.state.proofs.order_ok.Statement.{statement}
-use mathlib.Core.Path.{refl, sym, _∙_, ap}
+use mathlib.Core.Path.{sym, _∙_, ap}
 use Prim.Native.Nat.{_-_, _+_}
 use borrow.Author.Tests.{not-true, not-false}
 use lib.Dec.{ltb}
@@ -29,14 +29,14 @@ no-figures-requires c κs = search needs
 
 returns : tie.Need-returns
 unfolding figures-right
-returns c = (rw (sym (c .before .before .opens .ensures ∙ ap (is-order (c .before .before .before .before .before .before .before .args .mem .now)) (c .before .before .before .before .request-at .ensures) ∙ is-order-is (c .before .before .before .before .before .before .before .args .mem .now) (c .before .before .before .before .before .before .before .args .i)) ∙ not-true _ (c .before .if1 .taken)) (c .no-figures .ensures ∙ ap (λ o. words-within (c .before .before .before .before .before .before .before .args .mem .now) o 4 0) (c .before .before .before .order-at .ensures)), refl)
+returns c = rw (sym (c .before .before .opens .ensures ∙ ap (is-order (c .before .before .before .before .before .before .before .args .mem .now)) (c .before .before .before .before .request-at .ensures) ∙ is-order-is (c .before .before .before .before .before .before .before .args .mem .now) (c .before .before .before .before .before .before .before .args .i)) ∙ not-true _ (c .before .if1 .taken)) (c .no-figures .ensures ∙ ap (λ o. words-within (c .before .before .before .before .before .before .before .args .mem .now) o 4 0) (c .before .before .before .order-at .ensures))
 
 figures-ok-requires : tie.Need-figures-ok-requires
 figures-ok-requires c κs = search needs
 
 returns-2 : tie.Need-returns-2
 unfolding figures-right
-returns-2 c = (rw (sym (c .before .before .before .opens .ensures ∙ ap (is-order (c .before .before .before .before .before .before .before .before .args .mem .now)) (c .before .before .before .before .before .request-at .ensures) ∙ is-order-is (c .before .before .before .before .before .before .before .before .args .mem .now) (c .before .before .before .before .before .before .before .before .args .i)) ∙ not-false _ (c .before .before .if1 .left)) (stop-call _ _ _ (c .before .figures-ok .ensures ∙ ap (figures-ok (c .before .before .before .before .before .before .before .before .args .mem .now)) (c .before .before .before .before .order-at .ensures)) (c .if2 .taken)), refl)
+returns-2 c = rw (sym (c .before .before .before .opens .ensures ∙ ap (is-order (c .before .before .before .before .before .before .before .before .args .mem .now)) (c .before .before .before .before .before .request-at .ensures) ∙ is-order-is (c .before .before .before .before .before .before .before .before .args .mem .now) (c .before .before .before .before .before .before .before .before .args .i)) ∙ not-false _ (c .before .before .if1 .left)) (stop-call _ _ _ (c .before .figures-ok .ensures ∙ ap (figures-ok (c .before .before .before .before .before .before .before .before .args .mem .now)) (c .before .before .before .before .order-at .ensures)) (c .if2 .taken))
 
 add-find-id : tie.Need-add-find-id
 add-find-id c = search needs
@@ -58,7 +58,7 @@ same-length c = search needs
 
 returns-3 : tie.Need-returns-3
 unfolding figures-right
-returns-3 c = (rw (sym (c .before .before .before .before .before .before .before .before .before .opens .ensures ∙ ap (is-order (c .before .before .before .before .before .before .before .before .before .before .before .before .before .before .args .mem .now)) (c .before .before .before .before .before .before .before .before .before .before .before .request-at .ensures) ∙ is-order-is (c .before .before .before .before .before .before .before .before .before .before .before .before .before .before .args .mem .now) (c .before .before .before .before .before .before .before .before .before .before .before .before .before .before .args .i)) ∙ not-false _ (c .before .before .before .before .before .before .before .before .if1 .left)) (pass-call _ _ _ _ (c .before .before .before .before .before .before .before .figures-ok .ensures ∙ ap (figures-ok (c .before .before .before .before .before .before .before .before .before .before .before .before .before .before .args .mem .now)) (c .before .before .before .before .before .before .before .before .before .before .order-at .ensures)) (c .before .before .before .before .before .before .if2 .left) (last-call _ _ (ap (λ k. ltb k (head-in (rows-of (c .before .before .before .before .before .before .before .before .before .before .before .before .before .before .args .mem .now)) symbols-at)) (c .before .before .before .find-id .ensures .0 ∙ ap (λ b. symbol-index (rows-of (c .before .before .before .before .before .before .before .before .before .before .before .before .before .before .args .mem .now)) (getD (c .before .before .before .before .before .before .before .before .before .before .before .before .before .before .args .mem .now) (b + symbol-at) 0)) (c .before .before .before .before .before .before .before .before .before .before .before .request-at .ensures))))), c .before .before .before .find-id .ensures .1)
+returns-3 c = rw (sym (c .before .before .before .before .before .before .before .before .before .opens .ensures ∙ ap (is-order (c .before .before .before .before .before .before .before .before .before .before .before .before .before .before .args .mem .now)) (c .before .before .before .before .before .before .before .before .before .before .before .request-at .ensures) ∙ is-order-is (c .before .before .before .before .before .before .before .before .before .before .before .before .before .before .args .mem .now) (c .before .before .before .before .before .before .before .before .before .before .before .before .before .before .args .i)) ∙ not-false _ (c .before .before .before .before .before .before .before .before .if1 .left)) (pass-call _ _ _ _ (c .before .before .before .before .before .before .before .figures-ok .ensures ∙ ap (figures-ok (c .before .before .before .before .before .before .before .before .before .before .before .before .before .before .args .mem .now)) (c .before .before .before .before .before .before .before .before .before .before .order-at .ensures)) (c .before .before .before .before .before .before .if2 .left) (last-call _ _ (ap (λ k. ltb k (head-in (rows-of (c .before .before .before .before .before .before .before .before .before .before .before .before .before .before .args .mem .now)) symbols-at)) (c .before .before .before .find-id .ensures ∙ ap (λ b. symbol-index (rows-of (c .before .before .before .before .before .before .before .before .before .before .before .before .before .before .args .mem .now)) (getD (c .before .before .before .before .before .before .before .before .before .before .before .before .before .before .args .mem .now) (b + symbol-at) 0)) (c .before .before .before .before .before .before .before .before .before .before .before .request-at .ensures)))))
 
 pub order-ok-spec : {M : Type 1} → statement M
 order-ok-spec =
