@@ -437,12 +437,16 @@ pub record Counted (m : List ℕ) : Type 0 where
   pub whole : least-words + room-of m * place-words ≤ length m
   pub most : room-of m ≤ 65_535
 
-room-fits : (n : ℕ) → least-words ≤ n → (least-words + room-for n * place-words ≤ n) × (room-for n ≤ 65_535)
+pub room-most : (n : ℕ) → room-for n ≤ 65_535
 unfolding room-for
-room-fits n h = (omega arith, omega arith)
+room-most n = omega arith
+
+room-fits : (n : ℕ) → least-words ≤ n → least-words + room-for n * place-words ≤ n
+unfolding room-for
+room-fits n h = omega arith
 
 pub counted : (m : List ℕ) → least-words ≤ length m → head-in (rows-of m) groups-at ≤ 64 → head-in (rows-of m) symbols-at ≤ 256 → head-in (rows-of m) places-at ≤ room-of m → Counted m
-counted m l g s p = let r = room-fits (length m) l in record { long = l; few-groups = g; few-symbols = s; few-places = p; whole = r .0; most = r .1 }
+counted m l g s p = record { long = l; few-groups = g; few-symbols = s; few-places = p; whole = room-fits (length m) l; most = room-most (length m) }
 
 -- as many are listed as are counted
 counts : (room : ℕ) (S : Sheet) → (length (books-in room S .ledger .groups) ≡ head-in S groups-at) × (length (books-in room S .ledger .symbols) ≡ head-in S symbols-at) × (length (books-in room S .asked) ≡ head-in S places-at)

@@ -10,6 +10,7 @@ ghost use Rattle.books.specs.View.{rows-of, head-in};
 ghost use Rattle.books.specs.Writing.{group-index, symbol-index, order-index};
 ghost use Rattle.books.specs.Refining.{Counted};
 ghost use Rattle.store.specs.Finding.{mpid-word, named-by, key-at, is-key, found-place};
+ghost use Rattle.store.specs.Making.{made, made-words, totals-of};
 use packing::Ident;
 
 // A request's key: its owner's MPID, and its identifier.
@@ -138,5 +139,59 @@ pub fn find_place(mem: &[u64], key: Key) -> Found
             break Found::At(i);
         }
         i += 1;
+    }
+}
+
+// What making a fresh state answers: done, or that the memory is too short for groups and symbols (23).
+pub enum Made {
+    Done,
+    TooShort,
+}
+
+// Every word of the memory set to 0: the last number is 0 and nothing is listed. Where the memory is too short, nothing is written.
+pub fn make_fresh(mem: &mut [u64]) -> Made
+    ensures answer { λ r. ⌜ r ≡ made (now (mem .entry)) ⌝ }
+    ensures memory { λ _. ⌜ now (mem .exit) ≡ made-words (now (mem .entry)) ⌝ }
+{
+    if mem.len() < books::LEAST_WORDS {
+        return Made::TooShort;
+    }
+    let mut i = 0;
+    while i < mem.len() {
+        mem[i] = 0;
+        i += 1;
+    }
+    Made::Done
+}
+
+// A group's totals as its closing line shows them, or that no group has the place (5).
+pub enum Closing {
+    Totals {
+        mpid: u64,
+        traded_buys: u64,
+        traded_sells: u64,
+        open_buys: u64,
+        open_sells: u64,
+        blocked: bool,
+    },
+    Unlisted,
+}
+
+// The totals of the group at a place in listing order, from 0.
+pub fn closing_totals(mem: &[u64], place: usize) -> Closing
+    requires { ⌜ Counted (now mem) ⌝ }
+    ensures { λ r. ⌜ r ≡ totals-of (rows-of (now (mem .entry))) place ⌝ }
+{
+    if place >= mem[books::GROUPS_LISTED] as usize {
+        return Closing::Unlisted;
+    }
+    let b = books::GROUPS + place * books::GROUP_WORDS;
+    Closing::Totals {
+        mpid: mem[b + books::GROUP_MPID],
+        traded_buys: mem[b + books::TRADED_BUYS],
+        traded_sells: mem[b + books::TRADED_SELLS],
+        open_buys: mem[b + books::OPEN_BUYS],
+        open_sells: mem[b + books::OPEN_SELLS],
+        blocked: mem[b + books::BLOCKED] > 0,
     }
 }
