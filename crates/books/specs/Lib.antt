@@ -3,3 +3,4 @@ pub mod View
 pub mod Writing
 pub mod Refining
 pub mod Rules
+pub mod Judged

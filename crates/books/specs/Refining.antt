@@ -3,24 +3,23 @@ use mathlib.Core.Path.{_≡_, refl, sym, ap, ap₂, _∙_, subst}
 use mathlib.Core.Bool.{Bool, true, false, _&&_, cond}
 use mathlib.Core.Option.{some}
 use mathlib.Core.List.{List, [], _∷_, _++_, append-nil}
-use Prim.Native.Nat.{ℕ, suc, _+_, _*_, _/_, _-_, _≤_, _<_}
+use Prim.Native.Nat.{ℕ, suc, _+_, _*_, _-_, _≤_, _<_}
 use Prim.Native.Char.{code}
 use native.Mathlib.Omega.{arith}
 use lib.ListN.{length, length-append}
 use lib.Dec.{eqb}
-use borrow.Author.Tests.{eqb-true, eq-eqb, ne-eqb}
-use Rattle.laws.specs.Tests.{on}
-use Rattle.laws.specs.Tables.{All, sum, find-true, Shift, stay, adds, puts, shifted, look, look-key, put, length-put, Steady}
-use Rattle.laws.specs.Numbered.{least, least-is, those, numbered, those-same, those-more, length-numbered, put-those, found-those}
-use Rattle.laws.specs.Rows.{Row, patch, Sheet, Store, row-after, enter, enter-row, enter-append, row-append, Away, row-away, Shape, sheet, extent, Fit, Shows, shown, length-run}
+use borrow.Author.Tests.{eq-eqb, ne-eqb}
+use Rattle.laws.specs.Tables.{All, Shift, stay, adds, puts, shifted, look, look-key, put, length-put, Steady}
+use Rattle.laws.specs.Numbered.{those, numbered, those-same, those-more, length-numbered, put-those, found-those}
+use Rattle.laws.specs.Rows.{Row, patch, Sheet, row-after, enter, enter-row, enter-append, row-append, Away, row-away, Shape, sheet, Fit, Shows, shown, length-run}
 use Rattle.rulebook.specs.Names.{Mpid, Key}
 use Rattle.rulebook.specs.Lines.{Side, buy, sell, short, exempt, side-letter, Deal, new, change, cancel, block, unblock, Request}
-use Rattle.rulebook.specs.Kept.{Ticket, Figures, Order, Group, Symbol, Asked, Ledger, Books, by-mpid, by-id, by-key}
+use Rattle.rulebook.specs.Kept.{Order, Group, Symbol, Asked, Ledger, Books, by-mpid, by-id, by-key}
 use Rattle.rulebook.specs.Judging.{Deed, Edit, nothing, opened, listed, remembered, taken, enact, apply}
 use Rattle.fields.specs.Series.{side-of}
-use Rattle.books.specs.Layout.{heads, groups, symbols, keys, requests, orders, layout, least-words, place-words, room-for, room-of, opened-at, last-at, groups-at, symbols-at, places-at, open-buys-at, kind-at}
-use Rattle.books.specs.View.{flag, group-in, symbol-in, key-in, deal-in, asked-in, opens, order-in, head-in, group-of, symbol-of, asked-of, opens-of, order-of, orders-in, books-in, rows-of, view}
-use Rattle.books.specs.Writing.{bit, group-index, symbol-index, order-index, group-words, mark-words, key-words, Said, said, request-words, figure-words, new-figures, order-stores, open-stores, group-stores, symbol-stores, deed-stores, place-stores, stores, write}
+use Rattle.books.specs.Layout.{heads, groups, symbols, keys, requests, orders, layout, least-words, place-words, room-for, room-of, opened-at, last-at, groups-at, symbols-at, places-at, open-buys-at}
+use Rattle.books.specs.View.{flag, group-in, symbol-in, deal-in, asked-in, opens, order-in, head-in, group-of, symbol-of, asked-of, opens-of, order-of, orders-in, books-in, rows-of, view}
+use Rattle.books.specs.Writing.{bit, group-index, symbol-index, order-index, group-words, key-words, Said, said, request-words, figure-words, new-figures, order-stores, open-stores, group-stores, symbol-stores, deed-stores, place-stores, stores, write}
 
 -- ── what is asked of an edit: what it amends is there, and what it adds has room ──
 abbrev Desk : Ledger → Mpid → Type 0

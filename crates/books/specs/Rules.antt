@@ -1,7 +1,7 @@
 -- Document 01, "Outcomes", "State rules", of the lent words: the rulebook's rules of the books that they say,
 -- and what only words can break.
 use mathlib.Core.Path.{_≡_}
-use mathlib.Core.Bool.{Bool, true, false, cond}
+use mathlib.Core.Bool.{true, false}
 use mathlib.Core.List.{List, [], _∷_}
 use Prim.Native.Nat.{ℕ, _≤_, _<_}
 use lib.ListN.{length}

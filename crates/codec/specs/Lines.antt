@@ -9,13 +9,13 @@ use native.Mathlib.Omega.{arith}
 use lib.Dec.{leb, eqb}
 use lib.ListN.{length, drop, getD}
 use borrow.Author.Tests.{le-leb, eq-eqb, eqb-true}
-use Rattle.laws.specs.Tests.{opt, split}
+use Rattle.laws.specs.Tests.{opt, split, both}
 use Rattle.laws.specs.Tables.{find, find-true, all-find, All, Each}
 use Rattle.rulebook.specs.Lines.{Record, broken, line-of, Formed}
 use Rattle.fields.specs.Parts.{blank, ended}
 use Rattle.fields.specs.Series.{values, end-of, tails}
 use Rattle.fields.specs.Forms.{Says, IsLine}
-use Rattle.fields.specs.Trips.{both, back, forth, last-byte}
+use Rattle.fields.specs.Trips.{back, forth, last-byte}
 use Rattle.fields.specs.Values.{Packs, each-same, each-fits, fits-each}
 use Rattle.fields.specs.Widths.{line-width}
 use Rattle.codec.specs.Readings.{record-of, Maker, makers, letter-of, forms-of, form-number, read-as, read-by, read-line, reading}

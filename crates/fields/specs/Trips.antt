@@ -9,7 +9,7 @@ use lib.ListN.{length, drop, getD, length-append, drop-of-length-le}
 use lib.Seq.{drop-cons, drop-append-add, getD-append-seam, take-append-seam, take-all}
 use lib.Dec.{leb, eqb}
 use borrow.Author.Tests.{lt-leb, le-leb, leb-true, ne-eqb, eqb-true}
-use Rattle.laws.specs.Tests.{on}
+use Rattle.laws.specs.Tests.{on, both}
 use Rattle.laws.specs.Tables.{All, Each}
 use Rattle.rulebook.specs.Names.{word, Ident, ident-of}
 use Rattle.rulebook.specs.Lines.{ceiling, Field, text, letter, number}
@@ -32,9 +32,6 @@ good t = not (takes t 9) && (not (takes t 10) && filled t)
 abbrev pub goods : List Field → Bool
 goods [] = true
 goods (t ∷ ts) = good t && goods ts
-
-pub both : {a b : Bool} → (a && b) ≡ true → (a ≡ true) × (b ≡ true)
-both {a} {b} h = and-eq-true-iff a b .0 h
 
 off : (b : Bool) → not b ≡ true → b ≡ false
 off true h = absurd (false≢true h)

@@ -10,7 +10,7 @@ use lib.Dec.{eqb}
 use lib.ListN.{length, drop-of-length-le}
 use lib.Seq.{take-all}
 use borrow.Author.Tests.{eqb-true}
-use Rattle.laws.specs.Tests.{on, is-none}
+use Rattle.laws.specs.Tests.{on, is-none, both}
 use Rattle.laws.specs.Tables.{find, All, all-map, Each}
 use Rattle.rulebook.specs.Names.{bytes, word, ident-of, mpid-of}
 use Rattle.rulebook.specs.Lines.{Side, buy, sell, short, exempt, side-letter, Field, text, letter, number, Fits, from-to, identifier, mpid, side, yes-no}
@@ -20,7 +20,7 @@ use Rattle.fields.specs.Series.{side-of}
 use Rattle.fields.specs.Forms.{Says}
 use Rattle.fields.specs.Digits.{digits}
 use Rattle.fields.specs.Packing.{Solid, ident-same}
-use Rattle.fields.specs.Trips.{both, text-has}
+use Rattle.fields.specs.Trips.{text-has}
 
 -- ── bytes in a form say the value that is read from them ──
 pub every-all : (t : ℕ → Bool) (f : List ℕ) → every t f ≡ true → All (λ c. t c ≡ true) f

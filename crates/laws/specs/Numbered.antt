@@ -9,9 +9,9 @@ use native.Mathlib.Nat.{add-zero}
 use native.Mathlib.Decide.{decLt}
 use lib.ListN.{length, getElem?}
 use lib.Dec.{ltb}
-use borrow.Author.Tests.{ltb-true, ltb-false, lt-ltb, le-ltb}
+use borrow.Author.Tests.{ltb-true, lt-ltb, le-ltb}
 use Rattle.laws.specs.Tests.{on}
-use Rattle.laws.specs.Tables.{find, sum, All, Distinct, sum-append, Table, look, put}
+use Rattle.laws.specs.Tables.{find, sum, All, Distinct, sum-append, Table, put}
 
 -- ── the least number at which a test holds ──
 abbrev least-from : (ℕ → Bool) → ℕ → ℕ → ℕ
@@ -92,10 +92,6 @@ apart-yes t n h = every-yes _ n (λ j lt. every-yes _ j (λ i l. ap not (h i j l
 pub apart-each : (t : ℕ → ℕ → Bool) (n : ℕ) → apart t n ≡ true → (i j : ℕ) → i < j → j < n → t i j ≡ false
 unfolding apart
 apart-each t n e i j l lt = sym (not-not (t i j)) ∙ ap not (every-each (λ i. not (t i j)) j (every-each (λ j. every (λ i. not (t i j)) j) n e j lt) i l)
-
-pub apart-no : (t : ℕ → ℕ → Bool) (n i j : ℕ) → i < j → j < n → t i j ≡ true → apart t n ≡ false
-unfolding apart
-apart-no t n i j l lt e = every-no _ n j lt (every-no _ j i l (ap not e))
 
 -- ── a sum over the numbers below n ──
 unfoldable pub total : (ℕ → ℕ) → ℕ → ℕ

@@ -1,6 +1,6 @@
 -- Tables of rows in a list of words: regions one after the other, their cells, and what a run of stores does to them.
 use mathlib.Core.Path.{_≡_, refl, sym, ap, _∙_, subst, fun-ext}
-use mathlib.Core.Bool.{true, false, _&&_, cond}
+use mathlib.Core.Bool.{false, _&&_, cond}
 use mathlib.Core.List.{List, [], _∷_, _++_}
 use mathlib.Core.Logic.{_⊎_, inl, inr, ⊎-elim}
 use Prim.Native.Nat.{ℕ, zero, suc, _+_, _*_, _-_, _≤_, _<_}
@@ -69,11 +69,7 @@ rows-before : (w i j : ℕ) → i < j → i * w + w ≤ j * w
 rows-before w i j h = let le : (i + 1) * w ≤ j * w = mul-le-mul (omega arith) (omega arith) in omega (arith, le)
 
 module _ (R : Region) where
-  -- a cell is in its region
-  pub cell-within : (i k : ℕ) → i < R .count → k < R .width → (R .base ≤ cell R i k) × (cell R i k < after R)
-  cell-within i k h q = let w = rows-before (R .width) i (R .count) h in (omega arith, omega (arith, w))
-
-  -- and in one row
+  -- a cell is in one row
   pub cell-apart : (i j k l : ℕ) → (j ≡ i → ⊥) → k < R .width → l < R .width → cell R j k ≡ cell R i l → ⊥
   cell-apart i j k l ne hk hl e = elim (decLt j i) [
     | yes p ↦ omega (arith, rows-before (R .width) j i p)

@@ -11,6 +11,13 @@ pub on : (P : Bool → Type 0) (b : Bool) → (b ≡ true → P true) → (b ≡
 on P true f g = f refl
 on P false f g = g refl
 
+-- two tests together
+pub both : {a b : Bool} → (a && b) ≡ true → (a ≡ true) × (b ≡ true)
+both {a} {b} = and-eq-true-iff a b .0
+
+pub two : {a b : Bool} → a ≡ true → b ≡ true → (a && b) ≡ true
+two {a} {b} p q = and-eq-true-iff a b .1 (p, q)
+
 module _ {A : Type 0} where
   -- a goal at a choice
   pub split : (P : A → Type 0) (b : Bool) (x y : A) → (b ≡ true → P x) → (b ≡ false → P y) → P (cond b x y)

@@ -8,14 +8,14 @@ use native.Mathlib.Omega.{arith}
 use lib.Dec.{eqb}
 use lib.ListN.{length}
 use borrow.Author.Tests.{le-leb, not-true}
-use Rattle.laws.specs.Tests.{is-none}
+use Rattle.laws.specs.Tests.{is-none, both}
 use Rattle.laws.specs.Tables.{find, All, all-map, _also_}
 use Rattle.rulebook.specs.Names.{Ident, ident-of, Mpid, same-ident, ident-exact}
 use Rattle.rulebook.specs.Lines.{Field, text, letter, number, Fits, identifier, mpid, new, change, cancel, block, unblock, Deal, quote, fill, reduction, cancel-refused, News, Record, broken, open-day, group, symbol, ask, tell, request-line, notice-line, line-of, Formed}
 use Rattle.rulebook.specs.Cases.{in-range}
 use Rattle.fields.specs.Parts.{has-form}
 use Rattle.fields.specs.Packing.{Solid}
-use Rattle.fields.specs.Trips.{both, text-has, all-every}
+use Rattle.fields.specs.Trips.{text-has, all-every}
 use Rattle.fields.specs.Values.{Packs, every-all, identifier-solid, mpid-solid}
 use Rattle.packing.specs.Words.{unpacked}
 use Rattle.packing.specs.Fitting.{fits, every-fits, formed}

@@ -9,14 +9,14 @@ use lib.Dec.{leb, ltb, eqb}
 use lib.ListN.{length, take, drop, length-append, length-take, length-drop, drop-of-length-le}
 use lib.Seq.{take-all, take-at, drop-at, drop-drop}
 use borrow.Author.Tests.{le-leb, lt-ltb, ne-eqb, leb-true, ltb-true, eqb-true, eqb-false, not-true}
-use Rattle.laws.specs.Tests.{on}
+use Rattle.laws.specs.Tests.{on, both}
 use Rattle.laws.specs.Tables.{All, all-map}
 use Rattle.rulebook.specs.Names.{word, Ident, ident-of}
 use Rattle.rulebook.specs.Lines.{identifier, mpid}
 use Rattle.fields.specs.Parts.{unnamed, unlisted, takes, every}
 use Rattle.fields.specs.Numbers.{below}
 use Rattle.fields.specs.Packing.{Solid, all-take, all-drop}
-use Rattle.fields.specs.Trips.{both, all-every}
+use Rattle.fields.specs.Trips.{all-every}
 use Rattle.fields.specs.Values.{every-all, identifier-solid, mpid-solid, short-packed}
 use Rattle.packing.specs.Words.{spelt, unpacked, follows, tight}
 use Rattle.packing.specs.Fitting.{fits}

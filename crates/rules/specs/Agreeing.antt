@@ -1,7 +1,6 @@
 -- What the code tries of a row is what the rules ask of it.
 use mathlib.Core.Path.{_≡_, refl, sym, ap, _∙_, subst}
-use mathlib.Core.Bool.{Bool, true, false, not, _&&_, _||_, cond, false≢true, and-eq-true-iff}
-use mathlib.Core.Logic.{_↔_}
+use mathlib.Core.Bool.{Bool, true, false, _&&_, _||_, cond, false≢true}
 use mathlib.Core.List.{List, [], _∷_}
 use Prim.Native.Nat.{ℕ, zero, suc, _+_, _≤_, _<_}
 use Prim.Native.Char.{code}
@@ -11,33 +10,27 @@ use native.Mathlib.Decide.{decLt}
 use lib.Dec.{leb, eqb}
 use lib.ListN.{getD}
 use borrow.Author.Tests.{leb-true, le-leb, eqb-true, eqb-false, eq-eqb}
-use Rattle.laws.specs.Tests.{on, is-none}
-use Rattle.laws.specs.Tables.{find, _also_}
+use Rattle.laws.specs.Tests.{on, both, two}
+use Rattle.laws.specs.Tables.{_also_}
 use Rattle.laws.specs.Numbered.{every-each}
 use Rattle.laws.specs.Rows.{Row, region}
 use Rattle.laws.specs.Checks.{all-hold, rules-read, rules-met}
 use Rattle.rulebook.specs.Names.{bytes, Key}
-use Rattle.rulebook.specs.Lines.{ceiling, Side, buy, sell, short, exempt, side-letter, Deal, new, change, cancel, block, unblock, side, letter, identifier, size, price, Fits, Formed, from-to, number, limit, yes-no, group, ask, tell, quote, mpid}
+use Rattle.rulebook.specs.Lines.{ceiling, Side, buy, sell, short, exempt, side-letter, Deal, new, change, cancel, block, unblock, side, letter, identifier, size, price, Fits, Formed, from-to, number, yes-no, group, ask, tell, quote, mpid}
 use Rattle.rulebook.specs.Cases.{in-range}
 use Rattle.rulebook.specs.Keeping.{name-fits}
 use Rattle.rulebook.specs.Kept.{metrics}
 use Rattle.fields.specs.Series.{side-of}
 use Rattle.fields.specs.Values.{says-side}
-use Rattle.packing.specs.Fitting.{fits, formed}
+use Rattle.packing.specs.Fitting.{fits}
 use Rattle.packing.specs.Exactly.{fits-exactly, letter-exactly, formed-exactly, mpid-exactly, identifier-exactly}
-use Rattle.books.specs.Layout.{layout, room-of, groups, symbols, keys, requests, orders, opened-at, groups-at, mpid-at, gross-trade-at, net-trade-at, gross-open-at, net-open-at, gross-both-at, net-both-at, max-size-at, short-sales-at, blocked-at, traded-buys-at, traded-sells-at, open-buys-at, open-sells-at, id-at, bid-at, offer-at, kind-at, number-at, target-at, target-middle-at, target-tail-at, symbol-at, side-at, size-at, price-at, order-price-at, order-size-at, done-at, cancel-asked-at}
+use Rattle.books.specs.Layout.{layout, room-of, groups, symbols, keys, requests, orders, opened-at, gross-trade-at, net-trade-at, gross-open-at, net-open-at, gross-both-at, net-both-at, max-size-at, short-sales-at, blocked-at, traded-buys-at, traded-sells-at, open-buys-at, open-sells-at, id-at, bid-at, offer-at, kind-at, number-at, target-at, target-middle-at, target-tail-at, symbol-at, side-at, size-at, price-at, order-price-at, order-size-at, done-at, cancel-asked-at}
 use Rattle.books.specs.View.{flag, mpid-in, group-in, tally-in, key-in, target-in, deal-in, asked-in, opens, head-in, rows-of}
 use Rattle.books.specs.Writing.{request-words}
 use Rattle.books.specs.Rules.{words-in}
 use Rattle.rules.specs.Meaning.{words-same, same-itself}
 use Rattle.rules.specs.Testing.{request-fits, figures-fit, no-figures, totals-fit, group-fits, symbol-fits, no-totals}
 use Rattle.rules.specs.Passing.{start, number-ok, sized-ok, new-ok, change-ok, cancel-ok, deal-ok, request-ok, is-order, figures-ok, words-within, word-within, within-words, word-at, early, group-start, symbol-start, totals-ok, group-ok, symbol-ok}
-
-both : (a b : Bool) → (a && b) ≡ true → (a ≡ true) × (b ≡ true)
-both a b = and-eq-true-iff a b .0
-
-two : {a b : Bool} → a ≡ true → b ≡ true → (a && b) ≡ true
-two {a} {b} p q = and-eq-true-iff a b .1 (p, q)
 
 ranged : (low high n : ℕ) → low ≤ n → n ≤ high → from-to low high n ≡ true
 ranged low high n a b = two (le-leb low n a) (le-leb n high b)
@@ -104,9 +97,9 @@ group-read m i e =
 within-zeros : (m : List ℕ) (i : ℕ) → no-totals (rows-of m groups i) ≡ true → words-within m (group-start i + traded-buys-at) 4 0 ≡ true
 unfolding no-totals
 within-zeros m i e =
-    let w = both _ _ e in
-    let v = both _ _ (w .1) in
-    let u = both _ _ (v .1) in
+    let w = both e in
+    let v = both (w .1) in
+    let u = both (v .1) in
     let zero-at : (k : ℕ) → eqb (word-at m (group-start i) k) 0 ≡ true → word-at m (group-start i) k ≤ 0 = λ k q. omega (arith, eqb-true (word-at m (group-start i) k) 0 q) in
     run-within m (group-start i) 0 traded-buys-at 4 (zero-at traded-buys-at (w .0) also zero-at traded-sells-at (v .0) also zero-at open-buys-at (u .0) also zero-at open-sells-at (u .1) also tt)
 
@@ -114,12 +107,12 @@ pub group-met : (m : List ℕ) (i : ℕ) → GroupRules m i → group-ok m i ≡
 unfolding group-ok totals-ok group-fits totals-fit
 group-met m i r =
     let b = group-start i in
-    let w = both _ _ (r .fits-form) in
-    let s = both _ _ (w .1) in
-    let k = both _ _ (s .1) in
-    let t = both _ _ (k .1) in
-    let v = both _ _ (t .1) in
-    let u = both _ _ (v .1) in
+    let w = both (r .fits-form) in
+    let s = both (w .1) in
+    let k = both (s .1) in
+    let t = both (k .1) in
+    let v = both (t .1) in
+    let u = both (v .1) in
     let f = formed-exactly (group (mpid-in (rows-of m groups i)) (group-in (rows-of m groups i) .terms)) .0 (w .0) in
     let z = f .1 .1 .1 .1 .1 .1 .1 .0 in
     rules-met _ (
@@ -292,8 +285,8 @@ module _ (m : List ℕ) (i : ℕ) where
   pub request-met : request-fits (rows-of m keys i) r ≡ true → request-ok m i b ≡ true
   unfolding request-ok request-fits number-ok
   request-met e =
-      let w = both _ _ e in
-      let v = both _ _ (w .1) in
+      let w = both e in
+      let v = both (w .1) in
       let f = formed-exactly (ask (asked-in (rows-of m keys i) r .request)) .0 (w .0) in
       rules-met _ (identifier-exactly (key .name) .1 (name-fits (ask (asked-in (rows-of m keys i) r .request)) f) also v .0 also deal-met (record { form = f; written = words-same _ _ (v .1) }) also tt)
 
@@ -320,8 +313,8 @@ module _ (m : List ℕ) (i : ℕ) where
   pub order-met : opens r ≡ true → OrderRules → figures-ok m ob ≡ true
   unfolding figures-ok figures-fit
   order-met q o =
-      let w = both _ _ (rw q at (o .figures)) in
-      let v = both _ _ (w .1) in
+      let w = both (rw q at (o .figures)) in
+      let v = both (w .1) in
       let z = fits-exactly (size (word-at m ob order-size-at)) tt .0 (w .0) in
       let p = fits-exactly (price (word-at m ob order-price-at)) tt .0 (v .0) in
       rules-met _ (ranged 1 999_999_999_999 (word-at m ob order-price-at) (p .0) (p .1) also ranged 1 1_000_000 (word-at m ob order-size-at) (z .0) (z .1) also v .1 also o .done-most also tt)
@@ -335,8 +328,8 @@ module _ (m : List ℕ) (i : ℕ) where
   pub unused-met : opens r ≡ false → OrderRules → words-within m ob 4 0 ≡ true
   unfolding figures-fit no-figures
   unused-met q o =
-      let w = both _ _ (rw q at (o .figures)) in
-      let v = both _ _ (w .1) in
-      let u = both _ _ (v .1) in
+      let w = both (rw q at (o .figures)) in
+      let v = both (w .1) in
+      let u = both (v .1) in
       let nil : (k : ℕ) → eqb (word-at m ob k) 0 ≡ true → word-at m ob k ≤ 0 = λ k q. omega (arith, eqb-true (word-at m ob k) 0 q) in
       subst (λ (a : ℕ). words-within m a 4 0 ≡ true) (add-zero ob) (run-within m ob 0 order-price-at 4 (nil order-price-at (w .0) also nil order-size-at (v .0) also nil done-at (u .0) also nil cancel-asked-at (u .1) also tt))

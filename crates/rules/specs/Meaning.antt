@@ -1,7 +1,7 @@
 -- What the test says: it passes exactly where every state rule of document 01 holds.
 use mathlib.Core.Path.{_≡_, refl, sym, ap, ap₂, _∙_, subst}
-use mathlib.Core.Bool.{Bool, true, false, not, _&&_, _||_, cond, false≢true, and-eq-true-iff}
-use mathlib.Core.Option.{Option, none, some}
+use mathlib.Core.Bool.{Bool, true, false, not, _&&_, _||_, cond, false≢true}
+use mathlib.Core.Option.{none, some}
 use mathlib.Core.Logic.{_↔_}
 use mathlib.Core.List.{List, [], _∷_, _++_, map, map-append}
 use Prim.Native.Nat.{ℕ, zero, suc, _+_, _≤_, _<_}
@@ -9,34 +9,29 @@ use Prim.Native.Char.{code}
 use native.Mathlib.Omega.{arith}
 use lib.ListN.{length}
 use lib.Dec.{leb, ltb, eqb}
-use borrow.Author.Tests.{leb-true, le-leb, ltb-true, lt-ltb, le-ltb, eqb-true, eq-eqb}
-use Rattle.laws.specs.Tests.{on, is-none}
-use Rattle.laws.specs.Tables.{find, All, sum, Has, Apart, Distinct, look}
+use borrow.Author.Tests.{leb-true, le-leb, eqb-true, eq-eqb}
+use Rattle.laws.specs.Tests.{on, is-none, both, two}
+use Rattle.laws.specs.Tables.{find, All, _also_, sum, Has, Distinct, look}
+use Rattle.laws.specs.Checks.{all-hold, rules-read, rules-met}
 use Rattle.laws.specs.Numbered.{every, every-yes, every-each, apart, apart-yes, apart-each, least, those, numbered, those-none, those-more, length-numbered, all-those, each-those, find-those, map-those, distinct-numbered, numbered-distinct}
-use Rattle.laws.specs.Rows.{Row, Sheet}
-use Rattle.rulebook.specs.Names.{Ident, Mpid, Key, same-mpid, same-key}
-use Rattle.rulebook.specs.Lines.{ceiling, Side, Deal, new, change, cancel, block, unblock, Fits, Formed, group, ask, tell, quote, size, price}
-use Rattle.rulebook.specs.Kept.{Ticket, Order, Group, Symbol, Asked, Books, by-mpid, by-id, by-request, metrics, tally, worth}
+use Rattle.laws.specs.Rows.{Sheet}
+use Rattle.rulebook.specs.Names.{Ident, Key, same-mpid, same-key}
+use Rattle.rulebook.specs.Lines.{ceiling, Side, new, change, cancel, block, unblock, group, ask, tell, quote, size, price}
+use Rattle.rulebook.specs.Kept.{Order, Group, Symbol, Asked, by-mpid, by-id, metrics, tally, worth}
 use Rattle.rulebook.specs.Account.{tickets, deal-effect}
-use Rattle.rulebook.specs.Rules.{is-kept, FitsGroup, FitsSymbol, FitsAsked, tickets-at, tickets-in, SoundOrder, SoundLedger, Sound}
+use Rattle.rulebook.specs.Rules.{FitsGroup, FitsSymbol, FitsAsked, tickets-at, tickets-in, SoundOrder, Sound}
 use Rattle.rulebook.specs.Sums.{tickets-append}
 use Rattle.fields.specs.Series.{side-of}
 use Rattle.packing.specs.Fitting.{fits, formed}
 use Rattle.packing.specs.Exactly.{fits-exactly, formed-exactly}
-use Rattle.books.specs.Layout.{least-words, room-of, room-for, groups, symbols, keys, requests, orders, opened-at, last-at, groups-at, symbols-at, places-at, mpid-at, short-sales-at, blocked-at, traded-buys-at, traded-sells-at, open-buys-at, open-sells-at, id-at, bid-at, offer-at, number-at, kind-at, symbol-at, side-at, size-at, price-at, order-price-at, order-size-at, done-at, cancel-asked-at}
-use Rattle.books.specs.View.{flag, mpid-in, group-in, tally-in, key-in, target-in, asked-in, opens, head-in, group-of, symbol-of, asked-of, opens-of, order-of, same-place, orders-in, books-in, rows-of, view}
+use Rattle.books.specs.Layout.{least-words, room-of, groups, symbols, keys, requests, orders, opened-at, last-at, groups-at, symbols-at, places-at, short-sales-at, blocked-at, traded-buys-at, traded-sells-at, open-buys-at, open-sells-at, id-at, bid-at, offer-at, number-at, kind-at, symbol-at, side-at, size-at, price-at, order-price-at, order-size-at, done-at, cancel-asked-at}
+use Rattle.books.specs.View.{flag, mpid-in, group-in, tally-in, key-in, target-in, head-in, group-of, symbol-of, asked-of, opens-of, order-of, same-place, orders-in, books-in, rows-of}
 use Rattle.books.specs.Writing.{group-index, symbol-index, request-words}
 use Rattle.books.specs.Refining.{Counted, counted}
 use Rattle.books.specs.Rules.{words-in, TidyGroup, TidyPlace, Summed, Valid}
-use Rattle.rules.specs.Testing.{head-fits, totals-fit, group-fits, symbol-fits, same-words, request-fits, no-figures, figures-fit, desk-listed, symbol-listed, no-totals, sums-are, every-rule, rules, state-ok}
+use Rattle.rules.specs.Testing.{head-fits, totals-fit, group-fits, symbol-fits, same-words, request-fits, no-figures, figures-fit, desk-listed, symbol-listed, no-totals, sums-are, rules, state-ok}
 
 -- ── tests, read ──
-both : (a b : Bool) → (a && b) ≡ true → (a ≡ true) × (b ≡ true)
-both a b = and-eq-true-iff a b .0
-
-two : {a b : Bool} → a ≡ true → b ≡ true → (a && b) ≡ true
-two {a} {b} p q = and-eq-true-iff a b .1 (p, q)
-
 -- the rules, one by one
 pub record Holds (room : ℕ) (S : Sheet) : Type 0 where
   pub few-groups : leb (head-in S groups-at) 64 ≡ true
@@ -58,52 +53,17 @@ pub record Holds (room : ℕ) (S : Sheet) : Type 0 where
   pub sums-right : every (sums-are S) (head-in S groups-at) ≡ true
   pub gross-within : every (λ i. leb (metrics (tally-in (S groups i)) .gross-both) ceiling) (head-in S groups-at) ≡ true
 
-pub holding : (room : ℕ) (S : Sheet) → every-rule (rules room S) ≡ true → Holds room S
+collected : (room : ℕ) (S : Sheet) → All (λ b. b ≡ true) (rules room S) → Holds room S
 unfolding rules
-holding room S e =
-    let a = both _ _ e in
-    let b = both _ _ (a .1) in
-    let c = both _ _ (b .1) in
-    let d = both _ _ (c .1) in
-    let f = both _ _ (d .1) in
-    let g = both _ _ (f .1) in
-    let h = both _ _ (g .1) in
-    let i = both _ _ (h .1) in
-    let j = both _ _ (i .1) in
-    let k = both _ _ (j .1) in
-    let l = both _ _ (k .1) in
-    let m = both _ _ (l .1) in
-    let n = both _ _ (m .1) in
-    let o = both _ _ (n .1) in
-    let p = both _ _ (o .1) in
-    let q = both _ _ (p .1) in
-    let r = both _ _ (q .1) in
-    let s = both _ _ (r .1) in
-    record {
-      few-groups = a .0;
-      few-symbols = b .0;
-      few-places = c .0;
-      head = d .0;
-      groups-fit = f .0;
-      symbols-fit = g .0;
-      requests-fit = h .0;
-      figures-right = i .0;
-      mpids-apart = j .0;
-      ids-apart = k .0;
-      keys-apart = l .0;
-      desks-listed = m .0;
-      symbols-listed = n .0;
-      none-early = o .0;
-      nothing-early = p .0;
-      done-within = q .0;
-      sums-right = r .0;
-      gross-within = s .0;
-    }
+collected room S (a, (b, (c, (d, (e, (f, (g, (h, (i, (j, (k, (l, (m, (n, (o, (p, (q, (r, z)))))))))))))))))) =
+    record { few-groups = a; few-symbols = b; few-places = c; head = d; groups-fit = e; symbols-fit = f; requests-fit = g; figures-right = h; mpids-apart = i; ids-apart = j; keys-apart = k; desks-listed = l; symbols-listed = m; none-early = n; nothing-early = o; done-within = p; sums-right = q; gross-within = r }
 
-pub held : (room : ℕ) (S : Sheet) → Holds room S → every-rule (rules room S) ≡ true
+pub holding : (room : ℕ) (S : Sheet) → all-hold (rules room S) ≡ true → Holds room S
+holding room S e = collected room S (rules-read (rules room S) e)
+
+pub held : (room : ℕ) (S : Sheet) → Holds room S → all-hold (rules room S) ≡ true
 unfolding rules
-held room S h = two (h .few-groups) (two (h .few-symbols) (two (h .few-places) (two (h .head) (two (h .groups-fit) (two (h .symbols-fit) (two (h .requests-fit) (two (h .figures-right) (two (h .mpids-apart) (two (h .ids-apart) (two (h .keys-apart)
-    (two (h .desks-listed) (two (h .symbols-listed) (two (h .none-early) (two (h .nothing-early) (two (h .done-within) (two (h .sums-right) (two (h .gross-within) refl)))))))))))))))))
+held room S h = rules-met _ (h .few-groups also h .few-symbols also h .few-places also h .head also h .groups-fit also h .symbols-fit also h .requests-fit also h .figures-right also h .mpids-apart also h .ids-apart also h .keys-apart also h .desks-listed also h .symbols-listed also h .none-early also h .nothing-early also h .done-within also h .sums-right also h .gross-within also tt)
 
 -- ── a search of the rows, and whether a thing is listed ──
 has-index : {A : Type 0} (u : A → Bool) (f : ℕ → A) (n : ℕ) → is-none (find u (numbered f n)) ≡ not (ltb (least (λ j. u (f j)) n) n)
@@ -128,7 +88,7 @@ unfolding same-words
 words-same [] [] e = refl
 words-same [] (y ∷ ys) e = absurd (false≢true e)
 words-same (x ∷ xs) [] e = absurd (false≢true e)
-words-same (x ∷ xs) (y ∷ ys) e = let w = both (eqb x y) _ e in ap₂ {C = List ℕ} (λ a l. a ∷ l) (eqb-true x y (w .0)) (words-same xs ys (w .1))
+words-same (x ∷ xs) (y ∷ ys) e = let w = both {a = eqb x y} e in ap₂ {C = List ℕ} (λ a l. a ∷ l) (eqb-true x y (w .0)) (words-same xs ys (w .1))
 
 pub same-itself : (xs ys : List ℕ) → xs ≡ ys → same-words xs ys ≡ true
 unfolding same-words
@@ -166,7 +126,7 @@ tickets-read S (suc n) = rw (those-more (opens-of S) (order-of S) n, those-more 
 module _ (room : ℕ) (S : Sheet) (h : Holds room S) where
   each-group : (i : ℕ) → i < head-in S groups-at → (formed (group (mpid-in (S groups i)) (group-in (S groups i) .terms)) ≡ true) × ((leb (S groups i short-sales-at) 1 && (leb (S groups i blocked-at) 1 && totals-fit (S groups i))) ≡ true)
   unfolding group-fits
-  each-group i lt = both _ _ (every-each (λ i. group-fits (S groups i)) (head-in S groups-at) (h .groups-fit) i lt)
+  each-group i lt = both (every-each (λ i. group-fits (S groups i)) (head-in S groups-at) (h .groups-fit) i lt)
 
   each-symbol : (i : ℕ) → i < head-in S symbols-at → FitsSymbol (symbol-of S i)
   unfolding symbol-fits
@@ -179,8 +139,8 @@ module _ (room : ℕ) (S : Sheet) (h : Holds room S) where
   each-place : (i : ℕ) → i < head-in S places-at → Place i
   unfolding request-fits
   each-place i lt =
-      let w = both _ _ (every-each (λ i. request-fits (S keys i) (S requests i)) (head-in S places-at) (h .requests-fit) i lt) in
-      let v = both _ _ (w .1) in
+      let w = both (every-each (λ i. request-fits (S keys i) (S requests i)) (head-in S places-at) (h .requests-fit) i lt) in
+      let v = both (w .1) in
       record { asked = (formed-exactly (ask (asked-of S i .request)) .0 (w .0), v .0); as-written = words-same _ _ (v .1) }
 
   each-figures : (i : ℕ) → i < head-in S places-at → cond (opens-of S i) (fits (size (S orders i order-size-at)) && (fits (price (S orders i order-price-at)) && leb (S orders i cancel-asked-at) 1)) (no-figures (S orders i)) ≡ true
@@ -197,7 +157,7 @@ module _ (room : ℕ) (S : Sheet) (h : Holds room S) where
   each-desk-listed i lt = has-index _ (group-of S) (head-in S groups-at) ∙ ap not (every-each (desk-listed S) (head-in S places-at) (h .desks-listed) i lt)
 
   order-figures : (i : ℕ) → i < head-in S places-at → opens-of S i ≡ true → (fits (size (S orders i order-size-at)) ≡ true) × (fits (price (S orders i order-price-at)) ≡ true) × (leb (S orders i cancel-asked-at) 1 ≡ true)
-  order-figures i lt e = let w = both _ _ (rw e at (each-figures i lt)) in let v = both _ _ (w .1) in (w .0, v .0, v .1)
+  order-figures i lt e = let w = both (rw e at (each-figures i lt)) in let v = both (w .1) in (w .0, v .0, v .1)
 
   each-order : (i : ℕ) → i < head-in S places-at → opens-of S i ≡ true → SoundOrder (numbered (symbol-of S) (head-in S symbols-at)) (order-of S i)
   each-order i lt e =
@@ -211,7 +171,7 @@ module _ (room : ℕ) (S : Sheet) (h : Holds room S) where
 
   each-sum : (i : ℕ) → i < head-in S groups-at → Summed (orders-in S) (S groups i)
   unfolding sums-are
-  each-sum i lt = let w = both _ _ (every-each (sums-are S) (head-in S groups-at) (h .sums-right) i lt) in record { open-buys = eqb-true _ _ (w .0); open-sells = eqb-true _ _ (w .1) }
+  each-sum i lt = let w = both (every-each (sums-are S) (head-in S groups-at) (h .sums-right) i lt) in record { open-buys = eqb-true _ _ (w .0); open-sells = eqb-true _ _ (w .1) }
 
   each-gross : (i : ℕ) → i < head-in S groups-at → metrics (tally (group-of S i) (orders-in S)) .gross-both ≤ ceiling
   each-gross i lt = let s = each-sum i lt in
@@ -221,18 +181,18 @@ module _ (room : ℕ) (S : Sheet) (h : Holds room S) where
   each-zero : flag (head-in S opened-at) ≡ false → (i : ℕ) → i < head-in S groups-at → (S groups i traded-buys-at ≡ 0) × (S groups i traded-sells-at ≡ 0)
   unfolding no-totals
   each-zero e i lt =
-      let w = both _ _ (every-each (λ i. no-totals (S groups i)) (head-in S groups-at) (unless _ _ (h .nothing-early) e) i lt) in
-      (eqb-true _ _ (w .0), eqb-true _ _ (both _ _ (w .1) .0))
+      let w = both (every-each (λ i. no-totals (S groups i)) (head-in S groups-at) (unless _ _ (h .nothing-early) e) i lt) in
+      (eqb-true _ _ (w .0), eqb-true _ _ (both (w .1) .0))
 
   each-tidy : (i : ℕ) → i < head-in S groups-at → TidyGroup (S groups i)
-  each-tidy i lt = let w = both _ _ (each-group i lt .1) in record { short-sales-mark = leb-true _ _ (w .0); blocked-mark = leb-true _ _ (both _ _ (w .1) .0) }
+  each-tidy i lt = let w = both (each-group i lt .1) in record { short-sales-mark = leb-true _ _ (w .0); blocked-mark = leb-true _ _ (both (w .1) .0) }
 
   zeros : (i : ℕ) → i < head-in S places-at → opens-of S i ≡ false → let o = S orders i in (o order-price-at ≡ 0) × (o order-size-at ≡ 0) × (o done-at ≡ 0) × (o cancel-asked-at ≡ 0)
   unfolding no-figures
   zeros i lt e =
-      let w = both _ _ (rw e at (each-figures i lt)) in
-      let v = both _ _ (w .1) in
-      let u = both _ _ (v .1) in
+      let w = both (rw e at (each-figures i lt)) in
+      let v = both (w .1) in
+      let u = both (v .1) in
       (eqb-true _ _ (w .0), eqb-true _ _ (v .0), eqb-true _ _ (u .0), eqb-true _ _ (u .1))
 
   each-tidy-place : (i : ℕ) → i < head-in S places-at → TidyPlace (S keys i) (S requests i) (S orders i)
@@ -245,7 +205,7 @@ module _ (room : ℕ) (S : Sheet) (h : Holds room S) where
 
   head-read : (head-in S opened-at ≤ 1) × (head-in S last-at ≤ 4_294_967_295)
   unfolding head-fits
-  head-read = let w = both _ _ (h .head) in (leb-true _ _ (w .0), leb-true _ _ (w .1))
+  head-read = let w = both (h .head) in (leb-true _ _ (w .0), leb-true _ _ (w .1))
 
   empty : flag (head-in S opened-at) ≡ false → numbered (asked-of S) (head-in S places-at) ≡ []
   empty e = ap (numbered (asked-of S)) (eqb-true (head-in S places-at) 0 (unless _ _ (h .none-early) e)) ∙ those-none (λ i. true) (asked-of S)
@@ -383,6 +343,6 @@ module _ (m : List ℕ) (v : Valid m) where
 pub exactly : (m : List ℕ) → (state-ok m ≡ true) ↔ Valid m
 unfolding state-ok
 exactly m = (
-  λ e. let w = both _ _ e in valid-of m (leb-true _ _ (w .0)) (holding (room-of m) (rows-of m) (w .1)),
+  λ e. let w = both e in valid-of m (leb-true _ _ (w .0)) (holding (room-of m) (rows-of m) (w .1)),
   λ v. two (le-leb _ _ (v .long)) (held (room-of m) (rows-of m) (holds-by m v)),
 )

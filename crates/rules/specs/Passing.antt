@@ -1,21 +1,21 @@
 -- The rules of a row as the code tries them, one after the other, over the words where they stand.
 use mathlib.Core.Path.{_≡_, refl, subst}
-use mathlib.Core.Bool.{Bool, true, false, _&&_, _||_, cond}
+use mathlib.Core.Bool.{Bool, true, false, _||_, cond}
 use mathlib.Core.List.{List, [], _∷_}
 use Prim.Native.Nat.{ℕ, _+_, _*_, _-_, _≤_, _<_}
 use Prim.Native.Char.{code}
-use lib.Dec.{leb, ltb, eqb}
+use lib.Dec.{leb, eqb}
 use lib.ListN.{length, getD}
 use Rattle.laws.specs.Numbered.{every, every-each, every-yes}
 use native.Mathlib.Omega.{arith}
 use borrow.Author.Tests.{lt-ltb, le-ltb, leb-true, le-leb}
 use Rattle.laws.specs.Checks.{all-hold, last-call, stop-call, pass-call, stop-most, pass-most}
 use Rattle.laws.specs.Rows.{Row, Region, region}
-use Rattle.rulebook.specs.Names.{bytes, Ident, mpid-of}
+use Rattle.rulebook.specs.Names.{bytes, Ident}
 use Rattle.rulebook.specs.Lines.{ceiling, from-to, letter, identifier, mpid}
 use Rattle.rulebook.specs.Rules.{is-kept}
 use Rattle.packing.specs.Fitting.{fits}
-use Rattle.books.specs.Layout.{least-words, layout, groups, symbols, keys, opened-at, last-at, groups-at, symbols-at, places-at, mpid-at, gross-trade-at, max-size-at, short-sales-at, traded-buys-at, traded-sells-at, open-buys-at, open-sells-at, id-at, bid-at, name-at, kind-at, number-at, target-at as target-cell, target-middle-at, target-tail-at, symbol-at, side-at, size-at, price-at, order-price-at, order-size-at, done-at, cancel-asked-at}
+use Rattle.books.specs.Layout.{least-words, layout, groups, symbols, keys, opened-at, last-at, groups-at, symbols-at, places-at, mpid-at, gross-trade-at, max-size-at, short-sales-at, traded-buys-at, traded-sells-at, open-buys-at, open-sells-at, id-at, bid-at, kind-at, number-at, target-at as target-cell, target-middle-at, target-tail-at, symbol-at, side-at, size-at, price-at, order-price-at, order-size-at, done-at, cancel-asked-at}
 use Rattle.books.specs.View.{flag, key-in, rows-of}
 
 -- the words of a row are there

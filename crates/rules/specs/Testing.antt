@@ -6,6 +6,7 @@ use Prim.Native.Nat.{ℕ}
 use lib.Dec.{leb, ltb, eqb}
 use lib.ListN.{length}
 use Rattle.laws.specs.Tables.{sum}
+use Rattle.laws.specs.Checks.{all-hold}
 use Rattle.laws.specs.Numbered.{every, apart}
 use Rattle.laws.specs.Rows.{Row, Sheet}
 use Rattle.rulebook.specs.Names.{same-mpid}
@@ -64,10 +65,6 @@ sums-are S i = let r = S groups i in
     eqb (r open-buys-at) (sum (worth (mpid-in r) true) (orders-in S)) && eqb (r open-sells-at) (sum (worth (mpid-in r) false) (orders-in S))
 
 -- ── the rules ──
-abbrev pub every-rule : List Bool → Bool
-every-rule [] = true
-every-rule (b ∷ bs) = b && every-rule bs
-
 unfoldable pub rules : ℕ → Sheet → List Bool
 rules room S = let h = head-in S in let ng = h groups-at in let ns = h symbols-at in let np = h places-at in
     -- counts within room
@@ -91,4 +88,4 @@ rules room S = let h = head-in S in let ng = h groups-at in let ns = h symbols-a
 
 -- 22: "lent state breaks a state rule, or is too short for groups and symbols"
 unfoldable pub state-ok : List ℕ → Bool
-state-ok m = leb least-words (length m) && every-rule (rules (room-of m) (rows-of m))
+state-ok m = leb least-words (length m) && all-hold (rules (room-of m) (rows-of m))

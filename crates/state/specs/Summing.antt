@@ -1,13 +1,13 @@
 -- The open values of all groups, summed in one pass over the places: a total for each group's buys and one for its sells.
-use mathlib.Core.Path.{_≡_, refl, sym, ap, _∙_, subst}
-use mathlib.Core.Bool.{Bool, true, false, _&&_, cond, Bool·beq, false≢true, and-eq-true-iff}
+use mathlib.Core.Path.{_≡_, refl, sym, _∙_, subst}
+use mathlib.Core.Bool.{Bool, true, false, _&&_, cond, Bool·beq, false≢true}
 use mathlib.Core.List.{List}
-use Prim.Native.Nat.{ℕ, zero, suc, _+_, _-_, _*_, _≤_, _<_}
+use Prim.Native.Nat.{ℕ, zero, _+_, _-_, _*_, _≤_, _<_}
 use native.Mathlib.Omega.{arith}
 use native.Mathlib.Nat.{mul-le-mul}
 use native.Mathlib.Decide.{decLt}
 use native.Mathlib.Numerals.{add-one}
-use lib.Dec.{leb, eqb}
+use lib.Dec.{eqb}
 use lib.ListN.{length, getD, set, replicate, getD-replicate, length-replicate, length-set}
 use lib.Seq.{getD-set-same, getD-set-other}
 use borrow.Author.Tests.{leb-true, eqb-true, eqb-false, eq-eqb, ne-eqb}
@@ -16,11 +16,11 @@ use Rattle.laws.specs.Tables.{sum}
 use Rattle.laws.specs.Numbered.{apart, apart-each, every, every-no, total, total-none, total-more, total-grows, sum-those, least-is}
 use Rattle.laws.specs.Checks.{rules-read}
 use Rattle.laws.specs.Rows.{Sheet}
-use Rattle.rulebook.specs.Names.{same-mpid, mpid-exact}
+use Rattle.rulebook.specs.Names.{same-mpid}
 use Rattle.rulebook.specs.Lines.{ceiling, buy, sell, short, exempt, is-buy}
 use Rattle.rulebook.specs.Cases.{in-range}
 use Rattle.rulebook.specs.Kept.{open-value, is-of, worth}
-use Rattle.books.specs.Layout.{groups, requests, orders, groups-at, places-at, mpid-at, side-at, open-buys-at, open-sells-at, order-price-at, order-size-at, done-at}
+use Rattle.books.specs.Layout.{groups, groups-at, places-at, mpid-at, open-buys-at, open-sells-at, order-price-at, order-size-at, done-at}
 use Rattle.books.specs.View.{mpid-in, head-in, rows-of, opens-of, order-of, orders-in}
 use Rattle.books.specs.Writing.{group-index}
 use Rattle.books.specs.Refining.{Counted}

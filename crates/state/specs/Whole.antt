@@ -1,6 +1,6 @@
 -- The test of the whole memory as the code makes it, and that it is the test of the state rules.
-use mathlib.Core.Path.{_≡_, refl, sym, ap, _∙_, subst, fun-ext}
-use mathlib.Core.Bool.{Bool, true, false, _&&_, _||_, cond, false≢true, and-eq-true-iff}
+use mathlib.Core.Path.{_≡_, refl, sym, _∙_, subst, fun-ext}
+use mathlib.Core.Bool.{Bool, true, false, _&&_, _||_, cond, false≢true}
 use mathlib.Core.Logic.{_⊎_, inl, inr, ⊎-elim}
 use mathlib.Core.List.{List, [], _∷_}
 use Prim.Native.Nat.{ℕ, _+_, _≤_, _<_}
@@ -8,11 +8,10 @@ use native.Mathlib.Omega.{arith}
 use lib.Dec.{leb, ltb, eqb}
 use lib.ListN.{length}
 use borrow.Author.Tests.{leb-true, ltb-true, lt-ltb, le-ltb}
-use Rattle.laws.specs.Tests.{on}
+use Rattle.laws.specs.Tests.{on, both, two}
 use Rattle.laws.specs.Checks.{all-hold, rules-read, rules-met, stop, pass, last-call}
 use Rattle.laws.specs.Tables.{_also_}
-use Rattle.laws.specs.Numbered.{every, every-each, every-yes, every-no, apart, apart-each, apart-yes, least, least-is}
-use Rattle.laws.specs.Rows.{Sheet}
+use Rattle.laws.specs.Numbered.{every, every-each, every-yes, every-no, apart, least, least-is}
 use Rattle.rulebook.specs.Names.{same-mpid, mpid-exact}
 use Rattle.rulebook.specs.Lines.{ceiling, Fits, mpid}
 use Rattle.books.specs.Layout.{least-words, room-of, groups, keys, requests, owner-at, name-at, name-middle-at, name-tail-at, symbol-at, opened-at, groups-at, symbols-at, places-at, traded-buys-at, open-buys-at, open-sells-at}
@@ -21,8 +20,8 @@ use Rattle.books.specs.Writing.{group-index, symbol-index}
 use Rattle.packing.specs.Exactly.{mpid-exactly}
 use Rattle.books.specs.Refining.{Counted, counted}
 use Rattle.chains.specs.Words.{same-row}
-use Rattle.rules.specs.Testing.{head-fits, request-fits, desk-listed, symbol-listed, sums-are, every-rule, rules, state-ok}
-use Rattle.rules.specs.Meaning.{Holds, holding, held, counted-by}
+use Rattle.rules.specs.Testing.{head-fits, request-fits, desk-listed, symbol-listed, sums-are, state-ok}
+use Rattle.rules.specs.Meaning.{holding, held}
 use Rattle.rules.specs.Passing.{words-within, word-at, word-within, group-start, totals-ok, head-ok, group-ok, symbol-ok, figures-ok}
 use Rattle.rules.specs.Agreeing.{early-is, order-start, OrderRules, GroupRules, group-read, group-met, symbol-read, symbol-met, request-read, request-met, order-read, order-met, unused-read, unused-met}
 use Rattle.state.specs.Places.{same-desk, same-id, figures-right, place-ok, desk-at}
@@ -78,12 +77,6 @@ places-same m = let same : ℕ → ℕ → ℕ → Bool = λ k i j. eqb (rows-of
     fun-ext (λ i. fun-ext (λ j. four (same owner-at i j) (same name-at i j) (same name-middle-at i j) (same name-tail-at i j)))
 
 -- ── the head ──
-both : (a b : Bool) → (a && b) ≡ true → (a ≡ true) × (b ≡ true)
-both a b = and-eq-true-iff a b .0
-
-two : {a b : Bool} → a ≡ true → b ≡ true → (a && b) ≡ true
-two {a} {b} p q = and-eq-true-iff a b .1 (p, q)
-
 -- a rule of each, or open
 each-early : (a : Bool) (t : ℕ → Bool) (n : ℕ) → ((i : ℕ) → i < n → (a || t i) ≡ true) → (a || every t n) ≡ true
 each-early true t n h = refl
@@ -130,7 +123,7 @@ place-met m i p = rules-met _ (request-met m i (p .request) also part also tt)
 
 fine-read : (m : List ℕ) (i : ℕ) → fine m i ≡ true → (desk-listed (rows-of m) i ≡ true) × (place-ok m i ≡ true)
 unfolding fine
-fine-read m i e = both _ _ e
+fine-read m i e = both e
 
 fine-met : (m : List ℕ) (i : ℕ) → desk-listed (rows-of m) i ≡ true → place-ok m i ≡ true → fine m i ≡ true
 unfolding fine
@@ -175,9 +168,9 @@ whole-met : (m : List ℕ) → state-ok m ≡ true → passes m ≡ true
 unfolding passes state-ok head-ok listed-ok table-ok head-fits
 whole-met m e =
     let S = rows-of m in let h = head-in S in
-    let w = both _ _ e in
+    let w = both e in
     let r = holding (room-of m) S (w .1) in
-    let f = both _ _ (r .head) in
+    let f = both (r .head) in
     rules-met _ (
     w .0
     also rules-met _ (f .0 also f .1 also r .few-groups also r .few-symbols also r .few-places also early-is (h opened-at) (eqb (h places-at) 0) ∙ r .none-early also tt)

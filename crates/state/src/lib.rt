@@ -1,12 +1,12 @@
 // The state rules of the whole lent memory: 22 where they fail. The memory may be anything, and of any length.
 // The time is linear in the places: identifiers are told apart by chains, and the open values of all groups are summed in one pass.
 ghost use mathlib.Core.Path.{_≡_};
-ghost use mathlib.Core.Bool.{true, false, _&&_};
-ghost use Prim.Native.Nat.{ℕ, _+_, _≤_, _<_};
+ghost use mathlib.Core.Bool.{true, false};
+ghost use Prim.Native.Nat.{_+_, _≤_, _<_};
 ghost use lib.ListN.{length};
 ghost use Rattle.laws.specs.Numbered.{every, apart};
-ghost use Rattle.books.specs.Layout.{room-of, groups-at, symbols-at, places-at, symbol-at, requests};
-ghost use Rattle.books.specs.View.{head-in, rows-of, asked-of};
+ghost use Rattle.books.specs.Layout.{room-of, groups-at, symbols-at, places-at};
+ghost use Rattle.books.specs.View.{head-in, rows-of};
 ghost use Rattle.books.specs.Writing.{group-index, symbol-index};
 ghost use Rattle.books.specs.Refining.{Counted};
 ghost use Rattle.store.specs.Finding.{mpid-word};

@@ -1,6 +1,6 @@
 -- Document 01, "Making a fresh state", and the totals that a closing line shows.
 use mathlib.Core.Path.{_≡_, refl, sym, ap, _∙_, subst}
-use mathlib.Core.Bool.{Bool, true, false, cond}
+use mathlib.Core.Bool.{Bool, true, cond}
 use mathlib.Core.Option.{Option, none, some, Option·map}
 use mathlib.Core.List.{List, [], _∷_}
 use Prim.Native.Nat.{ℕ, zero, suc, _+_, _≤_, _<_}
@@ -36,8 +36,8 @@ made-number TooShort = 23
 abbrev pub too-short : List ℕ → Bool
 too-short m = ltb (length m) least-words
 
-unfoldable pub made : List ℕ → Made
-made m = cond (too-short m) TooShort Done
+unfoldable pub made : List ℕ → ℕ
+made m = cond (too-short m) (made-number TooShort) (made-number Done)
 
 unfoldable pub made-words : List ℕ → List ℕ
 made-words m = cond (too-short m) m (replicate (length m) 0)

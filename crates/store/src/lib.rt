@@ -1,16 +1,14 @@
 // The lent words, read and written: searches, a run of words stored, a fresh state, and the totals of a closing line.
 ghost use mathlib.Core.Path.{_≡_};
-ghost use mathlib.Core.Bool.{cond};
-ghost use Prim.Native.Nat.{ℕ, _+_, _≤_, _<_};
-ghost use lib.ListN.{length, replicate};
+ghost use Prim.Native.Nat.{_+_, _≤_, _<_};
+ghost use lib.ListN.{length};
 ghost use lib.Seq.{sets};
-ghost use lib.Dec.{ltb};
 ghost use Rattle.books.specs.Layout.{room-for, room-of, HasKeys};
-ghost use Rattle.books.specs.View.{rows-of, head-in};
-ghost use Rattle.books.specs.Writing.{group-index, symbol-index, order-index};
+ghost use Rattle.books.specs.View.{rows-of};
+ghost use Rattle.books.specs.Writing.{group-index, symbol-index};
 ghost use Rattle.books.specs.Refining.{Counted};
 ghost use Rattle.store.specs.Finding.{mpid-word, named-by, key-at, is-key, found-place};
-ghost use Rattle.store.specs.Making.{made, made-words, totals-of};
+ghost use Rattle.store.specs.Making.{made-number, made, made-words, totals-of};
 use packing::Ident;
 
 // A request's key: its owner's MPID, and its identifier.
@@ -127,18 +125,18 @@ pub fn find_place(mem: &[u64], key: Key) -> Found
 {
     let n = mem[books::PLACES_TAKEN] as usize;
     let places = room(mem.len());
-    let mut i = 0;
+    let mut place = 0;
     loop {
-        if i >= n {
-            if i < places {
-                break Found::Free(i);
+        if place >= n {
+            if place < places {
+                break Found::Free(place);
             }
             break Found::Full;
         }
-        if same_key(key, key_at(mem, i)) {
-            break Found::At(i);
+        if same_key(key, key_at(mem, place)) {
+            break Found::At(place);
         }
-        i += 1;
+        place += 1;
     }
 }
 
@@ -150,16 +148,16 @@ pub enum Made {
 
 // Every word of the memory set to 0: the last number is 0 and nothing is listed. Where the memory is too short, nothing is written.
 pub fn make_fresh(mem: &mut [u64]) -> Made
-    ensures answer { λ r. ⌜ r ≡ made (now (mem .entry)) ⌝ }
+    ensures answer { λ r. ⌜ made-number r ≡ made (now (mem .entry)) ⌝ }
     ensures memory { λ _. ⌜ now (mem .exit) ≡ made-words (now (mem .entry)) ⌝ }
 {
     if mem.len() < books::LEAST_WORDS {
         return Made::TooShort;
     }
-    let mut i = 0;
-    while i < mem.len() {
-        mem[i] = 0;
-        i += 1;
+    let mut word = 0;
+    while word < mem.len() {
+        mem[word] = 0;
+        word += 1;
     }
     Made::Done
 }

@@ -5,16 +5,16 @@ use mathlib.Core.Path.{_≡_, sym, _∙_, ap}
 use mathlib.Core.Bool.{false}
 use Prim.Native.Nat.{ℕ, _≤_, _<_, _-_}
 use native.Mathlib.Omega.{arith}
-use borrow.Author.Count.{below-none, below-more}
+use borrow.Author.Count.{below-more}
 use Rattle.books.specs.View.{rows-of}
 use Rattle.store.specs.Finding.{named-by, key-at, is-key, found-at, found-free, found-full}
 use Rattle.store.proofs.find_place.Tie as tie
 
 abbrev Inv-loop : tie.InvT-loop
-Inv-loop mem key n places i₀ i = (i ≤ n) × ((k : ℕ) → k < i → is-key (named-by key) (key-at (rows-of mem) k) ≡ false)
+Inv-loop mem key n places place₀ place = (place ≤ n) × ((k : ℕ) → k < place → is-key (named-by key) (key-at (rows-of mem) k) ≡ false)
 
 abbrev μ-loop : tie.MeasureT-loop
-μ-loop mem key n places i₀ i = n - i
+μ-loop mem key n places place₀ place = n - place
 
 shared-slice-read-n : tie.Need-shared-slice-read-n Inv-loop μ-loop
 shared-slice-read-n c = search needs
@@ -23,7 +23,7 @@ room-requires : tie.Need-room-requires Inv-loop μ-loop
 room-requires c κs = search needs
 
 loop-holds : tie.Need-loop-holds Inv-loop μ-loop
-loop-holds c = (search needs, below-none _)
+loop-holds c = (search needs, λ k lt. absurd (omega arith))
 
 key-at-requires : tie.Need-key-at-requires Inv-loop μ-loop
 key-at-requires c κs = search needs
@@ -31,8 +31,8 @@ key-at-requires c κs = search needs
 same-key-requires : tie.Need-same-key-requires Inv-loop μ-loop
 same-key-requires c κs = search needs
 
-add-i : tie.Need-add-i Inv-loop μ-loop
-add-i c = search needs
+add-place : tie.Need-add-place Inv-loop μ-loop
+add-place c = search needs
 
 loop-less : tie.Need-loop-less Inv-loop μ-loop
 loop-less c = search needs
@@ -60,7 +60,7 @@ find-place-spec =
     loop-holds
     key-at-requires
     same-key-requires
-    add-i
+    add-place
     loop-less
     loop-again
     returns
