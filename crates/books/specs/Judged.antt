@@ -1,18 +1,16 @@
 -- Every edit that judging makes is one that the words can take, so what it writes says the books after the record.
-use mathlib.Core.Path.{_≡_, refl, sym, ap, _∙_, subst}
-use mathlib.Core.Bool.{true, false, _&&_}
+use mathlib.Core.Path.{_≡_, refl, subst}
 use mathlib.Core.Option.{some}
 use mathlib.Core.List.{List}
 use Prim.Native.Nat.{ℕ}
 use Prim.Native.Char.{code}
-use native.Mathlib.Omega.{arith}
 use lib.Dec.{eqb}
-use Rattle.laws.specs.Tests.{on, some-of}
-use Rattle.laws.specs.Tables.{look, look-self, look-key, stay, adds, puts, Steady}
+use Rattle.laws.specs.Tests.{some-of, second-fails}
+use Rattle.laws.specs.Tables.{look, look-self, look-key, puts, Steady}
 use Rattle.rulebook.specs.Names.{Mpid, Key}
-use Rattle.rulebook.specs.Lines.{Deal, Request, News, Record}
-use Rattle.rulebook.specs.Kept.{Figures, Order, Group, Ledger, Books, by-mpid, by-id, by-key, with-figures, blocking}
-use Rattle.rulebook.specs.Judging.{Deed, idle, deed, Ruling, named, deal-ruling, news-ruling, judge}
+use Rattle.rulebook.specs.Lines.{Deal, News, Record}
+use Rattle.rulebook.specs.Kept.{Order, Group, Ledger, Books, by-mpid, by-id, by-key}
+use Rattle.rulebook.specs.Judging.{idle, deed, named, deal-ruling, news-ruling, judge}
 use Rattle.rulebook.specs.Day.{step}
 use Rattle.rulebook.specs.Cases.{number-not, kept-number, judge-cases, deal-cases, news-cases}
 use Rattle.books.specs.View.{view}
@@ -34,7 +32,7 @@ group-apt l m {g} e = (g, look-self by-mpid m (l .groups) e, refl)
 deal-apt : (l : Ledger) (g : Group) (k : Key) (d : Deal) → look by-mpid (k .owner .mpid) (l .groups) ≡ some g → let u = deal-ruling l g k d in
     Linked (record { request = record { key = k; deal = d }; number = u .number }) (u .deed .order) × AptDeed l (u .deed)
 deal-apt l g k d e = deal-cases l g k (λ d u. Linked (record { request = record { key = k; deal = d }; number = u .number }) (u .deed .order) × AptDeed l (u .deed)) (record {
-  on-held = λ d n h. (rw (number-not n (kept-number n h)) (on (λ t. (t && false) ≡ false) (eqb (said d .kind) (code "N")) (λ q. refl) (λ q. refl)), idle-apt l);
+  on-held = λ d n h. (second-fails (eqb (said d .kind) (code "N")) (number-not n (kept-number n h)), idle-apt l);
   on-order = λ s x z p h c. ((refl, refl), record { order = (g, e); group = tt; symbol = tt });
   on-change = λ n z p o q v b c. (refl, record { order = amend-apt l (named k n) e q; group = tt; symbol = tt });
   on-cancel = λ n o q v. (refl, record { order = amend-apt l (named k n) e q; group = tt; symbol = tt });

@@ -18,6 +18,13 @@ both {a} {b} = and-eq-true-iff a b .0
 pub two : {a b : Bool} → a ≡ true → b ≡ true → (a && b) ≡ true
 two {a} {b} p q = and-eq-true-iff a b .1 (p, q)
 
+pub first-fails : {a : Bool} (b : Bool) → a ≡ false → (a && b) ≡ false
+first-fails b e = rw e refl
+
+pub second-fails : (a : Bool) {b : Bool} → b ≡ false → (a && b) ≡ false
+second-fails true e = e
+second-fails false e = refl
+
 module _ {A : Type 0} where
   -- a goal at a choice
   pub split : (P : A → Type 0) (b : Bool) (x y : A) → (b ≡ true → P x) → (b ≡ false → P y) → P (cond b x y)

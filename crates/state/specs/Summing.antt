@@ -11,7 +11,7 @@ use lib.Dec.{eqb}
 use lib.ListN.{length, getD, set, replicate, getD-replicate, length-replicate, length-set}
 use lib.Seq.{getD-set-same, getD-set-other}
 use borrow.Author.Tests.{leb-true, eqb-true, eqb-false, eq-eqb, ne-eqb}
-use Rattle.laws.specs.Tests.{on}
+use Rattle.laws.specs.Tests.{on, first-fails, second-fails}
 use Rattle.laws.specs.Tables.{sum}
 use Rattle.laws.specs.Numbered.{apart, apart-each, every, every-no, total, total-none, total-more, total-grows, sum-those, least-is}
 use Rattle.laws.specs.Checks.{rules-read}
@@ -127,9 +127,9 @@ sums-read S g b = sum-those (worth (mpid-in (S groups g)) b) (opens-of S) (order
 
 side-broken : (S : Sheet) (g : ℕ) (b : Bool) → (S groups g open-buys-at ≤ ceiling) × (S groups g open-sells-at ≤ ceiling) → ceiling < part S g b (head-in S places-at) → sums-are S g ≡ false
 unfolding sums-are
-side-broken S g true most h = rw (ne-eqb (S groups g open-buys-at) (sum (worth (mpid-in (S groups g)) true) (orders-in S)) (λ e. omega (arith, most .0, sums-read S g true))) refl
-side-broken S g false most h = rw (ne-eqb (S groups g open-sells-at) (sum (worth (mpid-in (S groups g)) false) (orders-in S)) (λ e. omega (arith, most .1, sums-read S g false)))
-    (on (λ t. (t && false) ≡ false) (eqb (S groups g open-buys-at) (sum (worth (mpid-in (S groups g)) true) (orders-in S))) (λ q. refl) (λ q. refl))
+side-broken S g true most h = first-fails _ (ne-eqb (S groups g open-buys-at) (sum (worth (mpid-in (S groups g)) true) (orders-in S)) (λ e. omega (arith, most .0, sums-read S g true)))
+side-broken S g false most h = second-fails (eqb (S groups g open-buys-at) (sum (worth (mpid-in (S groups g)) true) (orders-in S)))
+    (ne-eqb (S groups g open-sells-at) (sum (worth (mpid-in (S groups g)) false) (orders-in S)) (λ e. omega (arith, most .1, sums-read S g false)))
 
 -- an order's value is to be added to its owner's total
 pub record Adding (m sums : List ℕ) (i k v : ℕ) : Type 0 where
@@ -173,10 +173,10 @@ module _ (m sums : List ℕ) (i k v : ℕ) (a : Adding m sums i k v) where
       clash p q l n e = false≢true (sym (apart-each (same-desk m) (head-in S groups-at) (a .alone) p q l n) ∙ eq-eqb (S groups p mpid-at) (S groups q mpid-at) e)
 
   kept-desk : (g : ℕ) (c : Bool) → (g ≡ k → ⊥) → g < head-in S groups-at → part S g c (i + 1) ≡ part S g c i
-  kept-desk g c ne h = let z = not-worth S g c i (rw (other-desk g ne h) refl) in omega (arith, part-more S g c i, z)
+  kept-desk g c ne h = let z = not-worth S g c i (first-fails _ (other-desk g ne h)) in omega (arith, part-more S g c i, z)
 
   other-side : (c : Bool) → Bool·beq c b ≡ false → part S k c (i + 1) ≡ part S k c i
-  other-side c e = let z = not-worth S k c i (rw e (on (λ t. (t && false) ≡ false) (same-mpid (mpid-in (S groups k)) (order-of S i .ticket .key .owner .mpid)) (λ q. refl) (λ q. refl))) in omega (arith, part-more S k c i, z)
+  other-side c e = let z = not-worth S k c i (second-fails (same-mpid (mpid-in (S groups k)) (order-of S i .ticket .key .owner .mpid)) e) in omega (arith, part-more S k c i, z)
 
   pub sums-add : getD sums (slot k b) 0 + v ≤ ceiling → Sums S (set sums (slot k b) (getD sums (slot k b) 0 + v)) (i + 1)
   sums-add le = record { long = simp length-set (a .so-far .long); each = λ g c h. one g c h .0; within = λ g c h. one g c h .1 }

@@ -8,7 +8,7 @@ use native.Mathlib.Omega.{arith}
 use lib.Dec.{leb, ltb, eqb}
 use lib.ListN.{length}
 use borrow.Author.Tests.{leb-true, ltb-true, lt-ltb, le-ltb}
-use Rattle.laws.specs.Tests.{on, both, two}
+use Rattle.laws.specs.Tests.{on, both, two, first-fails, second-fails}
 use Rattle.laws.specs.Checks.{all-hold, rules-read, rules-met, stop, pass, last-call}
 use Rattle.laws.specs.Tables.{_also_}
 use Rattle.laws.specs.Numbered.{every, every-each, every-yes, every-no, apart, least, least-is}
@@ -202,11 +202,11 @@ faulty f = record { good = λ e. absurd (false≢true e); bad = λ e. f }
 -- at a place whose owner is not listed, at one that is not in range, and at a total above the ceiling
 pub unlisted : {m sums : List ℕ} (i : ℕ) → i < head-in (rows-of m) places-at → head-in (rows-of m) groups-at ≤ desk-at m i → Tallied m sums false
 unfolding fine desk-listed
-unlisted {m} i lt h = faulty (inl (i, lt, rw (le-ltb (desk-at m i) (head-in (rows-of m) groups-at) h) refl))
+unlisted {m} i lt h = faulty (inl (i, lt, first-fails _ (le-ltb (desk-at m i) (head-in (rows-of m) groups-at) h)))
 
 pub unfit : {m sums : List ℕ} (i : ℕ) → i < head-in (rows-of m) places-at → place-ok m i ≡ false → Tallied m sums false
 unfolding fine
-unfit {m} i lt e = faulty (inl (i, lt, rw e (on (λ t. (t && false) ≡ false) (desk-listed (rows-of m) i) (λ q. refl) (λ q. refl))))
+unfit {m} i lt e = faulty (inl (i, lt, second-fails (desk-listed (rows-of m) i) e))
 
 pub too-much : {m sums : List ℕ} (i : ℕ) → i < head-in (rows-of m) places-at → Over (rows-of m) (i + 1) → Tallied m sums false
 too-much {m} i lt o = faulty (inr (over-later (i + 1) (head-in (rows-of m) places-at) (omega arith) o))
