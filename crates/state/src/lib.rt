@@ -9,6 +9,7 @@ ghost use Rattle.books.specs.Layout.{room-of, groups-at, symbols-at, places-at}
 ghost use Rattle.books.specs.View.{head-in, rows-of};
 ghost use Rattle.books.specs.Writing.{group-index, symbol-index};
 ghost use Rattle.books.specs.Refining.{Counted};
+ghost use Rattle.chains.specs.Words.{HasRows};
 ghost use Rattle.store.specs.Finding.{mpid-word};
 ghost use Rattle.rules.specs.Testing.{state-ok, sums-are};
 ghost use Rattle.rules.specs.Passing.{group-ok, symbol-ok};
@@ -24,13 +25,9 @@ const CEILING: u64 = 4_000_000_000_000_000_000;
 const BUY: u64 = 66;
 
 // Hints of where groups and symbols stand, and by what their words are spread over them.
-const DESK_HINTS: usize = 128;
+const HINTS: usize = 1_024;
 
-const DESK_SPREAD: u64 = 127;
-
-const ID_HINTS: usize = 512;
-
-const ID_SPREAD: u64 = 509;
+const SPREAD: u64 = 1_021;
 
 // A hint, as wide as an index.
 fn wide(x: u16) -> usize
@@ -71,14 +68,26 @@ fn symbols_ok(mem: &[u64]) -> bool
     true
 }
 
+// A hint for each of n rows: where its first word stands. Of rows that share a hint the last has it. A hint is only a hint: nothing is promised of it.
+fn hint_rows(mem: &[u64], at: usize, width: usize, n: usize, hints: &mut [u16])
+    requires { ⌜ HasRows (now mem) at width 1 n ⌝ }
+    requires { ⌜ 1021 ≤ length (now hints) ⌝ }
+{
+    let mut i = 0;
+    while i < n {
+        hints[(mem[at + i * width] % SPREAD) as usize] = i as u16;
+        i += 1;
+    }
+}
+
 // The first group with the MPID, or how many are listed. The hint of where it was last found is tried first, and is believed only where it is right.
 fn find_desk(mem: &[u64], hints: &mut [u16], mpid: u64) -> usize
     requires { ⌜ Counted (now mem) ⌝ }
     requires { ⌜ apart (same-desk (now mem)) (head-in (rows-of (now mem)) groups-at) ≡ true ⌝ }
-    requires { ⌜ 127 ≤ length (now hints) ⌝ }
+    requires { ⌜ 1021 ≤ length (now hints) ⌝ }
     ensures { λ r. ⌜ r ≡ group-index (rows-of (now (mem .entry))) (mpid-word mpid) ⌝ }
 {
-    let s = (mpid % DESK_SPREAD) as usize;
+    let s = (mpid % SPREAD) as usize;
     let g = wide(hints[s]);
     if g < mem[books::GROUPS_LISTED] as usize {
         if mem[books::GROUPS + g * books::GROUP_WORDS + books::GROUP_MPID] == mpid {
@@ -94,10 +103,10 @@ fn find_desk(mem: &[u64], hints: &mut [u16], mpid: u64) -> usize
 fn find_id(mem: &[u64], hints: &mut [u16], id: u64) -> usize
     requires { ⌜ Counted (now mem) ⌝ }
     requires { ⌜ apart (same-id (now mem)) (head-in (rows-of (now mem)) symbols-at) ≡ true ⌝ }
-    requires { ⌜ 509 ≤ length (now hints) ⌝ }
+    requires { ⌜ 1021 ≤ length (now hints) ⌝ }
     ensures { λ r. ⌜ r ≡ symbol-index (rows-of (now (mem .entry))) id ⌝ }
 {
-    let s = (id % ID_SPREAD) as usize;
+    let s = (id % SPREAD) as usize;
     let g = wide(hints[s]);
     if g < mem[books::SYMBOLS_LISTED] as usize {
         if mem[books::SYMBOLS + g * books::SYMBOL_WORDS + books::SYMBOL_ID] == id {
@@ -131,7 +140,7 @@ fn order_at(mem: &[u64], i: usize) -> usize
 fn order_ok(mem: &[u64], ids: &mut [u16], i: usize) -> bool
     requires { ⌜ Counted (now mem) ⌝ }
     requires { ⌜ apart (same-id (now mem)) (head-in (rows-of (now mem)) symbols-at) ≡ true ⌝ }
-    requires { ⌜ 509 ≤ length (now ids) ⌝ }
+    requires { ⌜ 1021 ≤ length (now ids) ⌝ }
     requires { ⌜ i < room-of (now mem) ⌝ }
     ensures { λ r. ⌜ r ≡ figures-right (now (mem .entry)) i ⌝ }
 {
@@ -150,7 +159,7 @@ fn order_ok(mem: &[u64], ids: &mut [u16], i: usize) -> bool
 fn place_ok(mem: &[u64], ids: &mut [u16], i: usize) -> bool
     requires { ⌜ Counted (now mem) ⌝ }
     requires { ⌜ apart (same-id (now mem)) (head-in (rows-of (now mem)) symbols-at) ≡ true ⌝ }
-    requires { ⌜ 509 ≤ length (now ids) ⌝ }
+    requires { ⌜ 1021 ≤ length (now ids) ⌝ }
     requires { ⌜ i < room-of (now mem) ⌝ }
     ensures { λ r. ⌜ r ≡ place-ok (now (mem .entry)) i ⌝ }
 {
@@ -164,7 +173,7 @@ fn place_ok(mem: &[u64], ids: &mut [u16], i: usize) -> bool
 fn desk_of(mem: &[u64], desks: &mut [u16], i: usize) -> usize
     requires { ⌜ Counted (now mem) ⌝ }
     requires { ⌜ apart (same-desk (now mem)) (head-in (rows-of (now mem)) groups-at) ≡ true ⌝ }
-    requires { ⌜ 127 ≤ length (now desks) ⌝ }
+    requires { ⌜ 1021 ≤ length (now desks) ⌝ }
     requires { ⌜ i < room-of (now mem) ⌝ }
     ensures { λ r. ⌜ r ≡ desk-at (now (mem .entry)) i ⌝ }
 {
@@ -219,8 +228,8 @@ fn add_value(mem: &[u64], i: usize, k: usize, sums: &mut [u64]) -> bool
 // Every taken place tried, its owner found and its open value added. False where a place is not in range, its owner not listed, or a total above the ceiling.
 fn tally(mem: &[u64], desks: &mut [u16], ids: &mut [u16], sums: &mut [u64]) -> bool
     requires { ⌜ Listed (now mem) ⌝ }
-    requires { ⌜ 127 ≤ length (now desks) ⌝ }
-    requires { ⌜ 509 ≤ length (now ids) ⌝ }
+    requires { ⌜ 1021 ≤ length (now desks) ⌝ }
+    requires { ⌜ 1021 ≤ length (now ids) ⌝ }
     requires { ⌜ Sums (rows-of (now mem)) (now sums) 0 ⌝ }
     ensures { λ r. ⌜ Tallied (now (mem .entry)) (now (sums .exit)) r ⌝ }
 {
@@ -268,9 +277,23 @@ fn table_ok(mem: &[u64]) -> bool
     requires { ⌜ Listed (now mem) ⌝ }
     ensures { λ r. ⌜ r ≡ table-ok (now (mem .entry)) ⌝ }
 {
-    let mut desks = [0u16; DESK_HINTS];
-    let mut ids = [0u16; ID_HINTS];
+    let mut desks = [0u16; HINTS];
+    let mut ids = [0u16; HINTS];
     let mut sums = [0u64; 2 * books::MOST_GROUPS];
+    hint_rows(
+        mem,
+        books::GROUPS,
+        books::GROUP_WORDS,
+        mem[books::GROUPS_LISTED] as usize,
+        &mut desks,
+    );
+    hint_rows(
+        mem,
+        books::SYMBOLS,
+        books::SYMBOL_WORDS,
+        mem[books::SYMBOLS_LISTED] as usize,
+        &mut ids,
+    );
     if !tally(mem, &mut desks, &mut ids, &mut sums) {
         return false;
     }
