@@ -2,18 +2,20 @@
 use mathlib.Core.Path.{_≡_, sym, _∙_, subst}
 use mathlib.Core.Bool.{Bool, true, false, cond}
 use mathlib.Core.List.{List, [], _∷_}
-use Prim.Native.Nat.{ℕ, _≤_, _<_}
+use Prim.Native.Nat.{ℕ, _+_, _*_, _≤_, _<_}
 use lib.Dec.{ltb, eqb}
+use lib.ListN.{getD}
 use borrow.Author.Tests.{eq-eqb}
 use Rattle.laws.specs.Tests.{eqb-exact, exact-sym}
-use Rattle.laws.specs.Numbered.{apart, apart-each, least-at, least-is}
+use Rattle.laws.specs.Numbered.{every, apart, apart-each, least-at, least-is}
 use Rattle.laws.specs.Rows.{Sheet}
 use Rattle.laws.specs.Checks.{all-hold}
 use Rattle.rulebook.specs.Names.{Mpid, same-mpid}
 use Rattle.books.specs.Layout.{groups, symbols, requests, mpid-at, id-at, symbol-at, groups-at, symbols-at}
 use Rattle.books.specs.View.{mpid-in, head-in, rows-of, opens-of, asked-of}
 use Rattle.books.specs.Writing.{group-index, symbol-index}
-use Rattle.store.specs.Finding.{mpid-word}
+use Rattle.chains.specs.Words.{same-row}
+use Rattle.store.specs.Finding.{first-row}
 use Rattle.rules.specs.Passing.{words-within, request-ok, figures-ok}
 use Rattle.rules.specs.Agreeing.{request-start, order-start}
 
@@ -36,21 +38,12 @@ abbrev pub desk-at : List ℕ → ℕ → ℕ
 desk-at m i = group-index (rows-of m) (asked-of (rows-of m) i .request .key .owner .mpid)
 
 -- ── a hint that is right is where the search would end ──
-pub desk-hint : (m : List ℕ) (w g : ℕ) → apart (same-desk m) (head-in (rows-of m) groups-at) ≡ true → g < head-in (rows-of m) groups-at → rows-of m groups g mpid-at ≡ w → g ≡ group-index (rows-of m) (mpid-word w)
-unfolding group-index
-desk-hint m w g a lt e = sym (least-at _ (head-in (rows-of m) groups-at) g lt
-    (λ j h. exact-sym eqb-exact w (rows-of m groups j mpid-at) ∙ subst (λ (w : ℕ). eqb (rows-of m groups j mpid-at) w ≡ false) e (apart-each (same-desk m) (head-in (rows-of m) groups-at) a j g h lt)) (eq-eqb w (rows-of m groups g mpid-at) (sym e)))
-
-pub id-hint : (m : List ℕ) (w g : ℕ) → apart (same-id m) (head-in (rows-of m) symbols-at) ≡ true → g < head-in (rows-of m) symbols-at → rows-of m symbols g id-at ≡ w → g ≡ symbol-index (rows-of m) w
-unfolding symbol-index
-id-hint m w g a lt e = sym (least-at _ (head-in (rows-of m) symbols-at) g lt
-    (λ j h. exact-sym eqb-exact w (rows-of m symbols j id-at) ∙ subst (λ (w : ℕ). eqb (rows-of m symbols j id-at) w ≡ false) e (apart-each (same-id m) (head-in (rows-of m) symbols-at) a j g h lt)) (eq-eqb w (rows-of m symbols g id-at) (sym e)))
+pub hint-right : (m : List ℕ) (at width n w i : ℕ) → apart (same-row m at width 1) n ≡ true → i < n → getD m (at + i * width + 0) 0 ≡ w → i ≡ first-row m at width n w
+unfolding first-row same-row every
+hint-right m at width n w i a lt e = sym (least-at (λ j. eqb w (getD m (at + j * width + 0) 0)) n i lt
+    (λ j h. exact-sym eqb-exact w (getD m (at + j * width + 0) 0) ∙ subst (λ (w : ℕ). eqb (getD m (at + j * width + 0) 0) w ≡ false) e (apart-each (same-row m at width 1) n a j i h lt)) (eq-eqb w (getD m (at + i * width + 0) 0) (sym e)))
 
 -- a search ends within the rows
-pub desk-within : (S : Sheet) (k : Mpid) → group-index S k ≤ head-in S groups-at
-unfolding group-index
-desk-within S k = least-is _ (head-in S groups-at) .within
-
-pub id-within : (S : Sheet) (k : ℕ) → symbol-index S k ≤ head-in S symbols-at
-unfolding symbol-index
-id-within S k = least-is _ (head-in S symbols-at) .within
+pub row-within : (m : List ℕ) (at width n w : ℕ) → first-row m at width n w ≤ n
+unfolding first-row
+row-within m at width n w = least-is (λ i. eqb w (getD m (at + i * width + 0) 0)) n .within

@@ -41,8 +41,8 @@ listed-ok m = let h = head-in (rows-of m) in
 -- the groups and symbols that the pass over the table relies on
 pub record Listed (m : List ℕ) : Type 0 where
   pub counts : Counted m
-  pub desks-apart : apart (same-desk m) (head-in (rows-of m) groups-at) ≡ true
-  pub ids-apart : apart (same-id m) (head-in (rows-of m) symbols-at) ≡ true
+  pub desks-apart : apart (same-row m 5 14 1) (head-in (rows-of m) groups-at) ≡ true
+  pub ids-apart : apart (same-row m 901 3 1) (head-in (rows-of m) symbols-at) ≡ true
   pub totals : (g : ℕ) → g < head-in (rows-of m) groups-at → (rows-of m groups g open-buys-at ≤ ceiling) × (rows-of m groups g open-sells-at ≤ ceiling)
 
 -- what the pass answers
@@ -245,8 +245,8 @@ listed-by m c e =
     let l = rules-read _ e in
     record {
       counts = c;
-      desks-apart = subst (λ t. apart t (head-in (rows-of m) groups-at) ≡ true) (desks-same m) (l .1 .1 .0);
-      ids-apart = subst (λ t. apart t (head-in (rows-of m) symbols-at) ≡ true) (ids-same m) (l .1 .1 .1 .0);
+      desks-apart = l .1 .1 .0;
+      ids-apart = l .1 .1 .1 .0;
       totals = λ g lt. group-totals m g (every-each (group-ok m) (head-in (rows-of m) groups-at) (l .0) g lt);
     }
 

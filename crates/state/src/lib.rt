@@ -9,8 +9,8 @@ ghost use Rattle.books.specs.Layout.{room-of, groups-at, symbols-at, places-at}
 ghost use Rattle.books.specs.View.{head-in, rows-of};
 ghost use Rattle.books.specs.Writing.{group-index, symbol-index};
 ghost use Rattle.books.specs.Refining.{Counted};
-ghost use Rattle.chains.specs.Words.{HasRows};
-ghost use Rattle.store.specs.Finding.{mpid-word};
+ghost use Rattle.chains.specs.Words.{HasRows, same-row};
+ghost use Rattle.store.specs.Finding.{first-row};
 ghost use Rattle.rules.specs.Testing.{state-ok, sums-are};
 ghost use Rattle.rules.specs.Passing.{group-ok, symbol-ok};
 ghost use Rattle.rules.specs.Agreeing.{request-start, order-start};
@@ -23,6 +23,9 @@ ghost use Rattle.state.specs.Places.{same-desk, same-id, figures-right, 
 const CEILING: u64 = 4_000_000_000_000_000_000;
 
 const BUY: u64 = 66;
+
+// A row's first word.
+const FIRST: usize = 0;
 
 // Hints of where groups and symbols stand, and by what their words are spread over them.
 const HINTS: usize = 1_024;
@@ -75,45 +78,33 @@ fn hint_rows(mem: &[u64], at: usize, width: usize, n: usize, hints: &mut [u16])
 {
     let mut i = 0;
     while i < n {
-        hints[(mem[at + i * width] % SPREAD) as usize] = i as u16;
+        hints[(mem[at + i * width + FIRST] % SPREAD) as usize] = i as u16;
         i += 1;
     }
 }
 
-// The first group with the MPID, or how many are listed. The hint of where it was last found is tried first, and is believed only where it is right.
-fn find_desk(mem: &[u64], hints: &mut [u16], mpid: u64) -> usize
-    requires { ⌜ Counted (now mem) ⌝ }
-    requires { ⌜ apart (same-desk (now mem)) (head-in (rows-of (now mem)) groups-at) ≡ true ⌝ }
+// The first of n rows that begins with this word, or n, where no two rows begin alike. The hint is tried first, and believed only where it is right.
+fn find_hinted(
+    mem: &[u64],
+    hints: &mut [u16],
+    at: usize,
+    width: usize,
+    n: usize,
+    word: u64,
+) -> usize
+    requires { ⌜ HasRows (now mem) at width 1 n ⌝ }
+    requires { ⌜ apart (same-row (now mem) at width 1) n ≡ true ⌝ }
     requires { ⌜ 1021 ≤ length (now hints) ⌝ }
-    ensures { λ r. ⌜ r ≡ group-index (rows-of (now (mem .entry))) (mpid-word mpid) ⌝ }
+    ensures { λ r. ⌜ r ≡ first-row (now (mem .entry)) at width n word ⌝ }
 {
-    let s = (mpid % SPREAD) as usize;
-    let g = wide(hints[s]);
-    if g < mem[books::GROUPS_LISTED] as usize {
-        if mem[books::GROUPS + g * books::GROUP_WORDS + books::GROUP_MPID] == mpid {
-            return g;
+    let s = (word % SPREAD) as usize;
+    let i = wide(hints[s]);
+    if i < n {
+        if mem[at + i * width + FIRST] == word {
+            return i;
         }
     }
-    let k = store::find_group(mem, mpid);
-    hints[s] = k as u16;
-    k
-}
-
-// The same for a symbol and its ID.
-fn find_id(mem: &[u64], hints: &mut [u16], id: u64) -> usize
-    requires { ⌜ Counted (now mem) ⌝ }
-    requires { ⌜ apart (same-id (now mem)) (head-in (rows-of (now mem)) symbols-at) ≡ true ⌝ }
-    requires { ⌜ 1021 ≤ length (now hints) ⌝ }
-    ensures { λ r. ⌜ r ≡ symbol-index (rows-of (now (mem .entry))) id ⌝ }
-{
-    let s = (id % SPREAD) as usize;
-    let g = wide(hints[s]);
-    if g < mem[books::SYMBOLS_LISTED] as usize {
-        if mem[books::SYMBOLS + g * books::SYMBOL_WORDS + books::SYMBOL_ID] == id {
-            return g;
-        }
-    }
-    let k = store::find_symbol(mem, id);
+    let k = store::find_word(mem, at, width, n, word);
     hints[s] = k as u16;
     k
 }
@@ -139,7 +130,7 @@ fn order_at(mem: &[u64], i: usize) -> usize
 // Whether a place holds an order with figures in range and a listed symbol, or none and figures of 0.
 fn order_ok(mem: &[u64], ids: &mut [u16], i: usize) -> bool
     requires { ⌜ Counted (now mem) ⌝ }
-    requires { ⌜ apart (same-id (now mem)) (head-in (rows-of (now mem)) symbols-at) ≡ true ⌝ }
+    requires { ⌜ apart (same-row (now mem) 901 3 1) (head-in (rows-of (now mem)) symbols-at) ≡ true ⌝ }
     requires { ⌜ 1021 ≤ length (now ids) ⌝ }
     requires { ⌜ i < room-of (now mem) ⌝ }
     ensures { λ r. ⌜ r ≡ figures-right (now (mem .entry)) i ⌝ }
@@ -152,13 +143,15 @@ fn order_ok(mem: &[u64], ids: &mut [u16], i: usize) -> bool
     if !rules::figures_ok(mem, o) {
         return false;
     }
-    find_id(mem, ids, mem[b + books::SYMBOL]) < mem[books::SYMBOLS_LISTED] as usize
+    let n = mem[books::SYMBOLS_LISTED] as usize;
+    let symbol = mem[b + books::SYMBOL];
+    find_hinted(mem, ids, books::SYMBOLS, books::SYMBOL_WORDS, n, symbol) < n
 }
 
 // Whether a taken place's request is in range, and so is its order.
 fn place_ok(mem: &[u64], ids: &mut [u16], i: usize) -> bool
     requires { ⌜ Counted (now mem) ⌝ }
-    requires { ⌜ apart (same-id (now mem)) (head-in (rows-of (now mem)) symbols-at) ≡ true ⌝ }
+    requires { ⌜ apart (same-row (now mem) 901 3 1) (head-in (rows-of (now mem)) symbols-at) ≡ true ⌝ }
     requires { ⌜ 1021 ≤ length (now ids) ⌝ }
     requires { ⌜ i < room-of (now mem) ⌝ }
     ensures { λ r. ⌜ r ≡ place-ok (now (mem .entry)) i ⌝ }
@@ -172,16 +165,14 @@ fn place_ok(mem: &[u64], ids: &mut [u16], i: usize) -> bool
 // The place among the groups of a taken place's owner, or how many groups are listed.
 fn desk_of(mem: &[u64], desks: &mut [u16], i: usize) -> usize
     requires { ⌜ Counted (now mem) ⌝ }
-    requires { ⌜ apart (same-desk (now mem)) (head-in (rows-of (now mem)) groups-at) ≡ true ⌝ }
+    requires { ⌜ apart (same-row (now mem) 5 14 1) (head-in (rows-of (now mem)) groups-at) ≡ true ⌝ }
     requires { ⌜ 1021 ≤ length (now desks) ⌝ }
     requires { ⌜ i < room-of (now mem) ⌝ }
     ensures { λ r. ⌜ r ≡ desk-at (now (mem .entry)) i ⌝ }
 {
-    find_desk(
-        mem,
-        desks,
-        mem[books::KEYS + i * books::KEY_WORDS + books::OWNER],
-    )
+    let n = mem[books::GROUPS_LISTED] as usize;
+    let owner = mem[books::KEYS + i * books::KEY_WORDS + books::OWNER];
+    find_hinted(mem, desks, books::GROUPS, books::GROUP_WORDS, n, owner)
 }
 
 // What an order, at b, has open: remaining x price.

@@ -1,16 +1,19 @@
 -- What the searches of the lent words find.
 use mathlib.Core.Path.{_≡_, refl, sym, _∙_}
 use mathlib.Core.Bool.{Bool, true, false, cond}
-use Prim.Native.Nat.{ℕ, _≤_, _<_}
+use mathlib.Core.List.{List}
+use Prim.Native.Nat.{ℕ, _+_, _*_, _≤_, _<_}
 use native.Mathlib.Omega.{arith}
-use lib.Dec.{ltb}
+use lib.Dec.{ltb, eqb}
+use lib.ListN.{getD}
 use borrow.Author.Tests.{lt-ltb, le-ltb}
 use Rattle.laws.specs.Numbered.{least, least-at, least-none}
 use Rattle.laws.specs.Rows.{Sheet}
 use Rattle.rulebook.specs.Names.{Mpid, Key, same-key}
 use Rattle.packing.specs.Words.{named}
-use Rattle.books.specs.Layout.{keys, places-at}
-use Rattle.books.specs.View.{head-in, key-in}
+use Rattle.books.specs.Layout.{keys, groups-at, symbols-at, places-at}
+use Rattle.books.specs.View.{head-in, key-in, rows-of}
+use Rattle.books.specs.Writing.{group-index, symbol-index}
 use Rattle.store.specs.declared.Key.{Key as KeyWords}
 use Rattle.store.specs.declared.Found.{Found}
 use Rattle.store.specs.declared.Found.the-variants.{At, Free, Full}
@@ -21,6 +24,18 @@ mpid-word w = record { code = w }
 
 abbrev pub named-by : KeyWords → Key
 named-by k = record { owner = record { mpid = mpid-word (k .owner) }; name = named (k .name) }
+
+-- the first of n rows that begins with a word
+unfoldable pub first-row : List ℕ → ℕ → ℕ → ℕ → ℕ → ℕ
+first-row m at width n w = least (λ i. eqb w (getD m (at + i * width + 0) 0)) n
+
+pub first-group : (m : List ℕ) (w : ℕ) → first-row m 5 14 (head-in (rows-of m) groups-at) w ≡ group-index (rows-of m) (mpid-word w)
+unfolding first-row group-index
+first-group m w = refl
+
+pub first-symbol : (m : List ℕ) (w : ℕ) → first-row m 901 3 (head-in (rows-of m) symbols-at) w ≡ symbol-index (rows-of m) w
+unfolding first-row symbol-index
+first-symbol m w = refl
 
 abbrev pub key-at : Sheet → ℕ → Key
 key-at S i = key-in (S keys i)

@@ -5,11 +5,14 @@ ghost use lib.ListN.{length};
 ghost use lib.Seq.{sets};
 ghost use Rattle.books.specs.Layout.{room-for, room-of, HasKeys};
 ghost use Rattle.books.specs.View.{rows-of};
-ghost use Rattle.books.specs.Writing.{group-index, symbol-index};
 ghost use Rattle.books.specs.Refining.{Counted};
-ghost use Rattle.store.specs.Finding.{mpid-word, named-by, key-at, is-key, found-place};
+ghost use Rattle.chains.specs.Words.{HasRows};
+ghost use Rattle.store.specs.Finding.{first-row, named-by, key-at, is-key, found-place};
 ghost use Rattle.store.specs.Making.{made-number, made, made-words, totals-of};
 use packing::Ident;
+
+// A row's first word.
+const FIRST: usize = 0;
 
 // A request's key: its owner's MPID, and its identifier.
 pub struct Key {
@@ -50,36 +53,17 @@ pub fn put_row(mem: &mut [u64], at: usize, words: &[u64])
     }
 }
 
-// The first group with the MPID, or how many are listed where none has it.
-pub fn find_group(mem: &[u64], mpid: u64) -> usize
-    requires { ⌜ Counted (now mem) ⌝ }
-    ensures { λ r. ⌜ r ≡ group-index (rows-of (now (mem .entry))) (mpid-word mpid) ⌝ }
+// The first of n rows that begins with this word, or n where none does.
+pub fn find_word(mem: &[u64], at: usize, width: usize, n: usize, word: u64) -> usize
+    requires { ⌜ HasRows (now mem) at width 1 n ⌝ }
+    ensures { λ r. ⌜ r ≡ first-row (now (mem .entry)) at width n word ⌝ }
 {
-    let n = mem[books::GROUPS_LISTED] as usize;
     let mut i = 0;
     loop {
         if i >= n {
             break i;
         }
-        if mpid == mem[books::GROUPS + i * books::GROUP_WORDS + books::GROUP_MPID] {
-            break i;
-        }
-        i += 1;
-    }
-}
-
-// The first symbol with the ID, or how many are listed where none has it.
-pub fn find_symbol(mem: &[u64], id: u64) -> usize
-    requires { ⌜ Counted (now mem) ⌝ }
-    ensures { λ r. ⌜ r ≡ symbol-index (rows-of (now (mem .entry))) id ⌝ }
-{
-    let n = mem[books::SYMBOLS_LISTED] as usize;
-    let mut i = 0;
-    loop {
-        if i >= n {
-            break i;
-        }
-        if id == mem[books::SYMBOLS + i * books::SYMBOL_WORDS + books::SYMBOL_ID] {
+        if word == mem[at + i * width + FIRST] {
             break i;
         }
         i += 1;

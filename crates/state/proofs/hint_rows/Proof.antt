@@ -26,6 +26,9 @@ mul-hints c = record { fits = omega (arith, row-room (c .before .before .pre .0)
 add-hints : tie.Need-add-hints Inv-loop μ-loop
 add-hints c = record { fits = omega (arith, row-room (c .before .before .pre .0) (c .before .loop .i) (c .loop-test .taken)) }
 
+add-hints-2 : tie.Need-add-hints-2 Inv-loop μ-loop
+add-hints-2 c = record { fits = omega (arith, row-room (c .before .before .pre .0) (c .before .loop .i) (c .loop-test .taken)) }
+
 mul-hints-2 : tie.Need-mul-hints-2 Inv-loop μ-loop
 mul-hints-2 c = record { fits = omega (arith, row-room (c .before .before .pre .0) (c .before .loop .i) (c .loop-test .taken)) }
 
@@ -63,6 +66,7 @@ hint-rows-spec =
     cast-hints
     mul-hints
     add-hints
+    add-hints-2
     mul-hints-2
     shared-slice-read-hints
     mul-hints-3

@@ -10,6 +10,7 @@ use Rattle.laws.specs.Checks.{last-call, pass-call, stop-call}
 use Rattle.rules.specs.Passing.{is-order, words-within, figures-ok}
 use Rattle.books.specs.Layout.{symbol-at, symbols-at}
 use Rattle.books.specs.View.{rows-of, head-in}
+use Rattle.store.specs.Finding.{first-symbol}
 use Rattle.state.specs.Places.{figures-right}
 use Rattle.books.specs.Writing.{symbol-index}
 use Rattle.rules.specs.Agreeing.{is-order-is}
@@ -38,27 +39,27 @@ returns-2 : tie.Need-returns-2
 unfolding figures-right
 returns-2 c = rw (sym (c .before .before .before .opens .ensures ∙ ap (is-order (c .before .before .before .before .before .before .before .before .args .mem .now)) (c .before .before .before .before .before .request-at .ensures) ∙ is-order-is (c .before .before .before .before .before .before .before .before .args .mem .now) (c .before .before .before .before .before .before .before .before .args .i)) ∙ not-false _ (c .before .before .if1 .left)) (stop-call _ _ _ (c .before .figures-ok .ensures ∙ ap (figures-ok (c .before .before .before .before .before .before .before .before .args .mem .now)) (c .before .before .before .before .order-at .ensures)) (c .if2 .taken))
 
-add-find-id : tie.Need-add-find-id
-add-find-id c = search needs
+shared-slice-read-n : tie.Need-shared-slice-read-n
+shared-slice-read-n c = search needs
 
-mul-find-id : tie.Need-mul-find-id
-mul-find-id c = search needs
+add-symbol : tie.Need-add-symbol
+add-symbol c = search needs
 
-shared-slice-read-find-id : tie.Need-shared-slice-read-find-id
-shared-slice-read-find-id c = search needs
+mul-symbol : tie.Need-mul-symbol
+mul-symbol c = search needs
 
-find-id-requires : tie.Need-find-id-requires
-find-id-requires c κs = search needs
+shared-slice-read-symbol : tie.Need-shared-slice-read-symbol
+shared-slice-read-symbol c = search needs
 
-shared-slice-read-result : tie.Need-shared-slice-read-result
-shared-slice-read-result c = search needs
+find-hinted-requires : tie.Need-find-hinted-requires
+find-hinted-requires c κs = search needs
 
 same-length : tie.Need-same-length
 same-length c = search needs
 
 returns-3 : tie.Need-returns-3
 unfolding figures-right
-returns-3 c = rw (sym (c .before .before .before .before .before .before .before .before .before .opens .ensures ∙ ap (is-order (c .before .before .before .before .before .before .before .before .before .before .before .before .before .before .args .mem .now)) (c .before .before .before .before .before .before .before .before .before .before .before .request-at .ensures) ∙ is-order-is (c .before .before .before .before .before .before .before .before .before .before .before .before .before .before .args .mem .now) (c .before .before .before .before .before .before .before .before .before .before .before .before .before .before .args .i)) ∙ not-false _ (c .before .before .before .before .before .before .before .before .if1 .left)) (pass-call _ _ _ _ (c .before .before .before .before .before .before .before .figures-ok .ensures ∙ ap (figures-ok (c .before .before .before .before .before .before .before .before .before .before .before .before .before .before .args .mem .now)) (c .before .before .before .before .before .before .before .before .before .before .order-at .ensures)) (c .before .before .before .before .before .before .if2 .left) (last-call _ _ (ap (λ k. ltb k (head-in (rows-of (c .before .before .before .before .before .before .before .before .before .before .before .before .before .before .args .mem .now)) symbols-at)) (c .before .before .before .find-id .ensures ∙ ap (λ b. symbol-index (rows-of (c .before .before .before .before .before .before .before .before .before .before .before .before .before .before .args .mem .now)) (getD (c .before .before .before .before .before .before .before .before .before .before .before .before .before .before .args .mem .now) (b + symbol-at) 0)) (c .before .before .before .before .before .before .before .before .before .before .before .request-at .ensures)))))
+returns-3 c = rw (sym (c .before .before .before .before .before .before .before .before .before .opens .ensures ∙ ap (is-order (c .before .before .before .before .before .before .before .before .before .before .before .before .before .before .args .mem .now)) (c .before .before .before .before .before .before .before .before .before .before .before .request-at .ensures) ∙ is-order-is (c .before .before .before .before .before .before .before .before .before .before .before .before .before .before .args .mem .now) (c .before .before .before .before .before .before .before .before .before .before .before .before .before .before .args .i)) ∙ not-false _ (c .before .before .before .before .before .before .before .before .if1 .left)) (pass-call _ _ _ _ (c .before .before .before .before .before .before .before .figures-ok .ensures ∙ ap (figures-ok (c .before .before .before .before .before .before .before .before .before .before .before .before .before .before .args .mem .now)) (c .before .before .before .before .before .before .before .before .before .before .order-at .ensures)) (c .before .before .before .before .before .before .if2 .left) (last-call _ _ (ap (λ k. ltb k (head-in (rows-of (c .before .before .before .before .before .before .before .before .before .before .before .before .before .before .args .mem .now)) symbols-at)) (c .before .before .find-hinted .ensures ∙ first-symbol (c .before .before .before .before .before .before .before .before .before .before .before .before .before .before .args .mem .now) _ ∙ ap (λ b. symbol-index (rows-of (c .before .before .before .before .before .before .before .before .before .before .before .before .before .before .args .mem .now)) (getD (c .before .before .before .before .before .before .before .before .before .before .before .before .before .before .args .mem .now) (b + symbol-at) 0)) (c .before .before .before .before .before .before .before .before .before .before .before .request-at .ensures)))))
 
 pub order-ok-spec : {M : Type 1} → statement M
 order-ok-spec =
@@ -71,10 +72,10 @@ order-ok-spec =
     returns
     figures-ok-requires
     returns-2
-    add-find-id
-    mul-find-id
-    shared-slice-read-find-id
-    find-id-requires
-    shared-slice-read-result
+    shared-slice-read-n
+    add-symbol
+    mul-symbol
+    shared-slice-read-symbol
+    find-hinted-requires
     same-length
     returns-3)

@@ -1,18 +1,19 @@
 -- `state::tally` meets its contract: every place before is in range, its owner listed, and its value added.
 use Rattle.state.proofs.tally.Statement.{statement}
 use borrow.Author.Needs.{needs}
-use mathlib.Core.Path.{_≡_, refl, sym, _∙_}
+use mathlib.Core.Path.{_≡_, refl, sym, _∙_, subst}
 use mathlib.Core.Bool.{true}
 use Prim.Native.Nat.{ℕ, _≤_, _<_, _-_}
 use native.Mathlib.Omega.{arith}
 use borrow.Author.Count.{below-none, below-more}
 use borrow.Author.Tests.{not-true, not-false}
 use lib.ListN.{length}
-use Rattle.books.specs.Layout.{places-at}
+use Rattle.laws.specs.Numbered.{apart}
+use Rattle.books.specs.Layout.{places-at, groups-at}
 use Rattle.books.specs.View.{rows-of, head-in}
 use Rattle.state.specs.Places.{place-ok}
 use Rattle.state.specs.Summing.{Sums}
-use Rattle.state.specs.Whole.{fine, unlisted, unfit, too-much, tallied, fine-at}
+use Rattle.state.specs.Whole.{fine, unlisted, unfit, too-much, tallied, fine-at, desks-same}
 use Rattle.state.proofs.tally.Tie as tie
 
 abbrev Inv-loop : tie.InvT-loop
@@ -61,7 +62,7 @@ returns-2 : tie.Need-returns-2 Inv-loop μ-loop
 returns-2 c = unfit _ (c .before .before .before .before .before .before .before .before .before .before .before .loop-test .taken) (sym (c .before .before .before .place-ok .ensures) ∙ not-true _ (c .if2 .taken))
 
 add-value-requires : tie.Need-add-value-requires Inv-loop μ-loop
-add-value-requires c κs = (c .before .before .before .before .before .before .before .before .before .before .before .before .before .before .before .before .before .before .before .pre .0 .counts, (record { taken = c .before .before .before .before .before .before .before .before .before .before .before .before .loop-test .taken; fine = sym (c .before .before .before .before .place-ok .ensures) ∙ not-false _ (c .before .if2 .left); desk = c .before .before .before .before .before .before .before .before .before .before .desk-of .ensures; listed = c .before .before .before .before .before .before .if1 .left; alone = c .before .before .before .before .before .before .before .before .before .before .before .before .before .before .before .before .before .before .before .pre .0 .desks-apart }, c .before .before .before .before .before .before .before .before .before .before .before .before .before .loop .inv .1))
+add-value-requires c κs = (c .before .before .before .before .before .before .before .before .before .before .before .before .before .before .before .before .before .before .before .pre .0 .counts, (record { taken = c .before .before .before .before .before .before .before .before .before .before .before .before .loop-test .taken; fine = sym (c .before .before .before .before .place-ok .ensures) ∙ not-false _ (c .before .if2 .left); desk = c .before .before .before .before .before .before .before .before .before .before .desk-of .ensures; listed = c .before .before .before .before .before .before .if1 .left; alone = subst (λ t. apart t (head-in (rows-of (c .before .before .before .before .before .before .before .before .before .before .before .before .before .before .before .before .before .before .before .args .mem .now)) groups-at) ≡ true) (desks-same (c .before .before .before .before .before .before .before .before .before .before .before .before .before .before .before .before .before .before .before .args .mem .now)) (c .before .before .before .before .before .before .before .before .before .before .before .before .before .before .before .before .before .before .before .pre .0 .desks-apart) }, c .before .before .before .before .before .before .before .before .before .before .before .before .before .loop .inv .1))
 
 same-length-7 : tie.Need-same-length-7 Inv-loop μ-loop
 same-length-7 c = search needs
