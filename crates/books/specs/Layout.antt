@@ -50,6 +50,13 @@ room-for n = min 65_535 ((n - least-words) / place-words)
 abbrev pub room-of : List ℕ → ℕ
 room-of m = room-for (length m)
 
+-- where a region's rows begin, and their words: of regions before which no number of rows goes by the room
+abbrev pub base-of : ℕ → ℕ
+base-of q = region (layout 0) q .base
+
+abbrev pub width-of : ℕ → ℕ
+width-of q = region (layout 0) q .width
+
 -- the keys of the first n places are there
 pub record HasKeys (m : List ℕ) (n : ℕ) : Type 0 where
   pub few : n ≤ 65_535
@@ -178,3 +185,25 @@ done-at = 2
 
 abbrev pub cancel-asked-at : ℕ
 cancel-asked-at = 3
+
+-- how many cells there are of limits, of marks, of totals and of a target, and of what an M, a C, and a B or R have not
+abbrev pub limit-cells : ℕ
+limit-cells = max-size-at - gross-trade-at
+
+abbrev pub mark-cells : ℕ
+mark-cells = traded-buys-at - short-sales-at
+
+abbrev pub total-cells : ℕ
+total-cells = width-of groups - traded-buys-at
+
+abbrev pub target-cells : ℕ
+target-cells = symbol-at - target-at
+
+abbrev pub not-of-change : ℕ
+not-of-change = size-at - symbol-at
+
+abbrev pub not-of-cancel : ℕ
+not-of-cancel = width-of requests - symbol-at
+
+abbrev pub not-of-block : ℕ
+not-of-block = width-of requests - target-at

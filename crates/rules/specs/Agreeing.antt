@@ -2,7 +2,7 @@
 use mathlib.Core.Path.{_≡_, refl, sym, ap, _∙_, subst}
 use mathlib.Core.Bool.{Bool, true, false, _&&_, _||_, cond, false≢true}
 use mathlib.Core.List.{List, [], _∷_}
-use Prim.Native.Nat.{ℕ, zero, suc, _+_, _≤_, _<_}
+use Prim.Native.Nat.{ℕ, zero, suc, _+_, _*_, _≤_, _<_}
 use Prim.Native.Char.{code}
 use native.Mathlib.Omega.{arith}
 use native.Mathlib.Nat.{add-zero}
@@ -24,13 +24,13 @@ use Rattle.fields.specs.Series.{side-of}
 use Rattle.fields.specs.Values.{says-side}
 use Rattle.packing.specs.Fitting.{fits}
 use Rattle.packing.specs.Exactly.{fits-exactly, letter-exactly, formed-exactly, mpid-exactly, identifier-exactly}
-use Rattle.books.specs.Layout.{layout, room-of, groups, symbols, keys, requests, orders, opened-at, gross-trade-at, net-trade-at, gross-open-at, net-open-at, gross-both-at, net-both-at, max-size-at, short-sales-at, blocked-at, traded-buys-at, traded-sells-at, open-buys-at, open-sells-at, id-at, bid-at, offer-at, kind-at, number-at, target-at, target-middle-at, target-tail-at, symbol-at, side-at, size-at, price-at, order-price-at, order-size-at, done-at, cancel-asked-at}
+use Rattle.books.specs.Layout.{layout, room-of, width-of, limit-cells, mark-cells, total-cells, target-cells, not-of-change, not-of-cancel, not-of-block, groups, symbols, keys, requests, orders, opened-at, gross-trade-at, net-trade-at, gross-open-at, net-open-at, gross-both-at, net-both-at, max-size-at, short-sales-at, blocked-at, traded-buys-at, traded-sells-at, open-buys-at, open-sells-at, id-at, bid-at, offer-at, kind-at, number-at, target-at, target-middle-at, target-tail-at, symbol-at, side-at, size-at, price-at, order-price-at, order-size-at, done-at, cancel-asked-at}
 use Rattle.books.specs.View.{flag, mpid-in, group-in, tally-in, key-in, target-in, deal-in, asked-in, opens, head-in, rows-of}
 use Rattle.books.specs.Writing.{request-words}
 use Rattle.books.specs.Rules.{words-in}
 use Rattle.rules.specs.Meaning.{words-same, same-itself}
 use Rattle.rules.specs.Testing.{request-fits, figures-fit, no-figures, totals-fit, group-fits, symbol-fits, no-totals}
-use Rattle.rules.specs.Passing.{start, number-ok, sized-ok, new-ok, change-ok, cancel-ok, deal-ok, request-ok, is-order, figures-ok, words-within, word-within, within-words, word-at, early, group-start, symbol-start, totals-ok, group-ok, symbol-ok}
+use Rattle.rules.specs.Passing.{number-ok, sized-ok, new-ok, change-ok, cancel-ok, deal-ok, request-ok, is-order, figures-ok, words-within, word-within, within-words, word-at, early, group-start, symbol-start, totals-ok, group-ok, symbol-ok}
 
 ranged : (low high n : ℕ) → low ≤ n → n ≤ high → from-to low high n ≡ true
 ranged low high n a b = two (le-leb low n a) (le-leb n high b)
@@ -69,9 +69,9 @@ pub record GroupRules (m : List ℕ) (i : ℕ) : Type 0 where
   pub gross : leb (metrics (tally-in (rows-of m groups i)) .gross-both) ceiling ≡ true
   pub quiet : (flag (head-in (rows-of m) opened-at) || no-totals (rows-of m groups i)) ≡ true
 
-zeros-within : (m : List ℕ) (i : ℕ) → words-within m (group-start i + traded-buys-at) 4 0 ≡ true → no-totals (rows-of m groups i) ≡ true
+zeros-within : (m : List ℕ) (i : ℕ) → words-within m (group-start i + traded-buys-at) total-cells 0 ≡ true → no-totals (rows-of m groups i) ≡ true
 unfolding no-totals
-zeros-within m i e = let z : (k : ℕ) → traded-buys-at ≤ k → k < traded-buys-at + 4 → word-at m (group-start i) k ≡ 0 = λ k a b. let h = word-within m (group-start i) traded-buys-at 4 0 e k a b in omega arith in
+zeros-within m i e = let z : (k : ℕ) → traded-buys-at ≤ k → k < traded-buys-at + total-cells → word-at m (group-start i) k ≡ 0 = λ k a b. let h = word-within m (group-start i) traded-buys-at total-cells 0 e k a b in omega arith in
     two (eq-eqb _ 0 (z traded-buys-at (omega arith) (omega arith))) (two (eq-eqb _ 0 (z traded-sells-at (omega arith) (omega arith))) (two (eq-eqb _ 0 (z open-buys-at (omega arith) (omega arith))) (eq-eqb _ 0 (z open-sells-at (omega arith) (omega arith)))))
 
 pub group-read : (m : List ℕ) (i : ℕ) → group-ok m i ≡ true → GroupRules m i
@@ -80,9 +80,9 @@ group-read m i e =
     let b = group-start i in
     let w = rules-read _ e in
     let t = rules-read _ (w .1 .1 .1 .1 .0) in
-    let lim : (k : ℕ) → gross-trade-at ≤ k → k < gross-trade-at + 6 → word-at m b k ≤ ceiling = word-within m b gross-trade-at 6 ceiling (w .1 .0) in
-    let mark : (k : ℕ) → short-sales-at ≤ k → k < short-sales-at + 2 → word-at m b k ≤ 1 = word-within m b short-sales-at 2 1 (w .1 .1 .1 .0) in
-    let tot : (k : ℕ) → traded-buys-at ≤ k → k < traded-buys-at + 4 → word-at m b k ≤ ceiling = word-within m b traded-buys-at 4 ceiling (t .0) in
+    let lim : (k : ℕ) → gross-trade-at ≤ k → k < gross-trade-at + limit-cells → word-at m b k ≤ ceiling = word-within m b gross-trade-at limit-cells ceiling (w .1 .0) in
+    let mark : (k : ℕ) → short-sales-at ≤ k → k < short-sales-at + mark-cells → word-at m b k ≤ 1 = word-within m b short-sales-at mark-cells 1 (w .1 .1 .1 .0) in
+    let tot : (k : ℕ) → traded-buys-at ≤ k → k < traded-buys-at + total-cells → word-at m b k ≤ ceiling = word-within m b traded-buys-at total-cells ceiling (t .0) in
     let z = in-range 1 1_000_000 (word-at m b max-size-at) (w .1 .1 .0) in
     record {
       fits-form = two (formed-exactly (group (mpid-in (rows-of m groups i)) (group-in (rows-of m groups i) .terms)) .1
@@ -94,14 +94,14 @@ group-read m i e =
       quiet = either (flag (head-in (rows-of m) opened-at)) (zeros-within m i) (sym (early-is _ _) ∙ t .1 .1 .0);
     }
 
-within-zeros : (m : List ℕ) (i : ℕ) → no-totals (rows-of m groups i) ≡ true → words-within m (group-start i + traded-buys-at) 4 0 ≡ true
+within-zeros : (m : List ℕ) (i : ℕ) → no-totals (rows-of m groups i) ≡ true → words-within m (group-start i + traded-buys-at) total-cells 0 ≡ true
 unfolding no-totals
 within-zeros m i e =
     let w = both e in
     let v = both (w .1) in
     let u = both (v .1) in
     let zero-at : (k : ℕ) → eqb (word-at m (group-start i) k) 0 ≡ true → word-at m (group-start i) k ≤ 0 = λ k q. omega (arith, eqb-true (word-at m (group-start i) k) 0 q) in
-    run-within m (group-start i) 0 traded-buys-at 4 (zero-at traded-buys-at (w .0) also zero-at traded-sells-at (v .0) also zero-at open-buys-at (u .0) also zero-at open-sells-at (u .1) also tt)
+    run-within m (group-start i) 0 traded-buys-at total-cells (zero-at traded-buys-at (w .0) also zero-at traded-sells-at (v .0) also zero-at open-buys-at (u .0) also zero-at open-sells-at (u .1) also tt)
 
 pub group-met : (m : List ℕ) (i : ℕ) → GroupRules m i → group-ok m i ≡ true
 unfolding group-ok totals-ok group-fits totals-fit
@@ -117,10 +117,10 @@ group-met m i r =
     let z = f .1 .1 .1 .1 .1 .1 .1 .0 in
     rules-met _ (
     mpid-exactly (mpid-in (rows-of m groups i)) .1 (f .0)
-    also run-within m b ceiling gross-trade-at 6 (f .1 .0 .1 also f .1 .1 .0 .1 also f .1 .1 .1 .0 .1 also f .1 .1 .1 .1 .0 .1 also f .1 .1 .1 .1 .1 .0 .1 also f .1 .1 .1 .1 .1 .1 .0 .1 also tt)
+    also run-within m b ceiling gross-trade-at limit-cells (f .1 .0 .1 also f .1 .1 .0 .1 also f .1 .1 .1 .0 .1 also f .1 .1 .1 .1 .0 .1 also f .1 .1 .1 .1 .1 .0 .1 also f .1 .1 .1 .1 .1 .1 .0 .1 also tt)
     also ranged 1 1_000_000 (word-at m b max-size-at) (z .0) (z .1)
-    also run-within m b 1 short-sales-at 2 (leb-true _ _ (s .0) also leb-true _ _ (k .0) also tt)
-    also rules-met _ (run-within m b ceiling traded-buys-at 4 (leb-true _ _ (t .0) also leb-true _ _ (v .0) also leb-true _ _ (u .0) also leb-true _ _ (u .1) also tt) also r .gross also early-is _ _ ∙ either (flag (head-in (rows-of m) opened-at)) (within-zeros m i) (r .quiet) also tt)
+    also run-within m b 1 short-sales-at mark-cells (leb-true _ _ (s .0) also leb-true _ _ (k .0) also tt)
+    also rules-met _ (run-within m b ceiling traded-buys-at total-cells (leb-true _ _ (t .0) also leb-true _ _ (v .0) also leb-true _ _ (u .0) also leb-true _ _ (u .1) also tt) also r .gross also early-is _ _ ∙ either (flag (head-in (rows-of m) opened-at)) (within-zeros m i) (r .quiet) also tt)
     also tt
     )
 
@@ -143,10 +143,10 @@ symbol-met m i e =
 
 -- ── requests ──
 abbrev pub request-start : List ℕ → ℕ → ℕ
-request-start m i = start (region (layout (room-of m)) requests) i
+request-start m i = region (layout (room-of m)) requests .base + i * width-of requests
 
 abbrev pub order-start : List ℕ → ℕ → ℕ
-order-start m i = start (region (layout (room-of m)) orders) i
+order-start m i = region (layout (room-of m)) orders .base + i * width-of orders
 
 side-fits : (x : Side) → Fits (side x)
 side-fits buy = refl
@@ -195,21 +195,21 @@ module _ (m : List ℕ) (i : ℕ) where
       (r kind-at ≡ code "N" → P (new-ok m b) (new (r symbol-at) (side-of (r side-at)) (r size-at) (r price-at))) →
       (r kind-at ≡ code "M" → P (change-ok m b) (change (target-in r) (r size-at) (r price-at))) →
       (r kind-at ≡ code "C" → P (cancel-ok m b) (cancel (target-in r))) →
-      (r kind-at ≡ code "B" → P (words-within m (b + target-at) 7 0) block) →
-      (r kind-at ≡ code "R" → P (words-within m (b + target-at) 7 0) unblock) →
+      (r kind-at ≡ code "B" → P (words-within m (b + target-at) not-of-block 0) block) →
+      (r kind-at ≡ code "R" → P (words-within m (b + target-at) not-of-block 0) unblock) →
       ((r kind-at ≡ code "R" → ⊥) → P false unblock) → P (deal-ok m b) (deal-in r)
   unfolding deal-ok
   by-kind P n c x k u o = on (λ t. P (cond t (new-ok m b) rest₁) (cond t (new (r symbol-at) (side-of (r side-at)) (r size-at) (r price-at)) deal₁)) (eqb (r kind-at) (code "N")) (λ e. n (eqb-true _ _ e))
       (λ e. on (λ t. P (cond t (change-ok m b) rest₂) (cond t (change (target-in r) (r size-at) (r price-at)) deal₂)) (eqb (r kind-at) (code "M")) (λ e. c (eqb-true _ _ e))
       (λ e. on (λ t. P (cond t (cancel-ok m b) rest₃) (cond t (cancel (target-in r)) deal₃)) (eqb (r kind-at) (code "C")) (λ e. x (eqb-true _ _ e))
-      (λ e. on (λ t. P (cond t (words-within m (b + target-at) 7 0) rest₄) (cond t block unblock)) (eqb (r kind-at) (code "B")) (λ e. k (eqb-true _ _ e))
-      (λ e. on (λ t. P (cond t (words-within m (b + target-at) 7 0) false) unblock) (eqb (r kind-at) (code "R")) (λ e. u (eqb-true _ _ e)) (λ e. o (eqb-false _ _ e))))))
+      (λ e. on (λ t. P (cond t (words-within m (b + target-at) not-of-block 0) rest₄) (cond t block unblock)) (eqb (r kind-at) (code "B")) (λ e. k (eqb-true _ _ e))
+      (λ e. on (λ t. P (cond t (words-within m (b + target-at) not-of-block 0) false) unblock) (eqb (r kind-at) (code "R")) (λ e. u (eqb-true _ _ e)) (λ e. o (eqb-false _ _ e))))))
     where
       rest₄ : Bool
-      rest₄ = cond (eqb (r kind-at) (code "R")) (words-within m (b + target-at) 7 0) false
+      rest₄ = cond (eqb (r kind-at) (code "R")) (words-within m (b + target-at) not-of-block 0) false
 
       rest₃ : Bool
-      rest₃ = cond (eqb (r kind-at) (code "B")) (words-within m (b + target-at) 7 0) rest₄
+      rest₃ = cond (eqb (r kind-at) (code "B")) (words-within m (b + target-at) not-of-block 0) rest₄
 
       rest₂ : Bool
       rest₂ = cond (eqb (r kind-at) (code "C")) (cancel-ok m b) rest₃
@@ -237,15 +237,15 @@ module _ (m : List ℕ) (i : ℕ) where
   deal-read : Fits (identifier (key .name)) → Fits (mpid (key .owner .mpid)) → deal-ok m b ≡ true → DealRules (deal-in r)
   unfolding new-ok change-ok cancel-ok
   deal-read n o = by-kind (λ t d. t ≡ true → DealRules d)
-      (λ k e. let w = rules-read _ e in let z = zero-word target-at 3 (w .0) in let q = sized-read (w .1 .1 .1 .0) in record {
+      (λ k e. let w = rules-read _ e in let z = zero-word target-at target-cells (w .0) in let q = sized-read (w .1 .1 .1 .0) in record {
         form = n also o also in-range 1 4_294_967_295 (r symbol-at) (w .1 .0) also side-fits (side-of (r side-at)) also q .0 also q .1 also tt;
         written = same-nine k (z target-at (omega arith) (omega arith)) (z target-middle-at (omega arith) (omega arith)) (z target-tail-at (omega arith) (omega arith)) refl (side-letter-read (r side-at) (w .1 .1 .0)) refl refl;
       })
-      (λ k e. let w = rules-read _ e in let z = zero-word symbol-at 2 (w .0) in let q = sized-read (w .1 .1 .0) in record {
+      (λ k e. let w = rules-read _ e in let z = zero-word symbol-at not-of-change (w .0) in let q = sized-read (w .1 .1 .0) in record {
         form = n also o also identifier-exactly (target-in r) .0 (w .1 .0) also q .0 also q .1 also tt;
         written = same-nine k refl refl refl (z symbol-at (omega arith) (omega arith)) (z side-at (omega arith) (omega arith)) refl refl;
       })
-      (λ k e. let w = rules-read _ e in let z = zero-word symbol-at 4 (w .0) in record {
+      (λ k e. let w = rules-read _ e in let z = zero-word symbol-at not-of-cancel (w .0) in record {
         form = n also o also identifier-exactly (target-in r) .0 (w .1 .0) also tt;
         written = same-nine k refl refl refl (z symbol-at (omega arith) (omega arith)) (z side-at (omega arith) (omega arith)) (z size-at (omega arith) (omega arith)) (z price-at (omega arith) (omega arith));
       })
@@ -253,26 +253,26 @@ module _ (m : List ℕ) (i : ℕ) where
       (λ k e. record { form = n also o also tt; written = bare k e })
       (λ k e. absurd (false≢true e))
     where
-      bare : {k′ : ℕ} → r kind-at ≡ k′ → words-within m (b + target-at) 7 0 ≡ true → words-in r ≡ k′ ∷ r number-at ∷ 0 ∷ 0 ∷ 0 ∷ 0 ∷ 0 ∷ 0 ∷ 0 ∷ []
-      bare k e = let z = zero-word target-at 7 e in same-nine k (z target-at (omega arith) (omega arith)) (z target-middle-at (omega arith) (omega arith)) (z target-tail-at (omega arith) (omega arith)) (z symbol-at (omega arith) (omega arith))
+      bare : {k′ : ℕ} → r kind-at ≡ k′ → words-within m (b + target-at) not-of-block 0 ≡ true → words-in r ≡ k′ ∷ r number-at ∷ 0 ∷ 0 ∷ 0 ∷ 0 ∷ 0 ∷ 0 ∷ 0 ∷ []
+      bare k e = let z = zero-word target-at not-of-block e in same-nine k (z target-at (omega arith) (omega arith)) (z target-middle-at (omega arith) (omega arith)) (z target-tail-at (omega arith) (omega arith)) (z symbol-at (omega arith) (omega arith))
           (z side-at (omega arith) (omega arith)) (z size-at (omega arith) (omega arith)) (z price-at (omega arith) (omega arith))
 
   deal-met : DealRules (deal-in r) → deal-ok m b ≡ true
   unfolding new-ok change-ok cancel-ok
   deal-met = by-kind (λ t d. DealRules d → t ≡ true)
       (λ k d. let w = nine (d .written) in let f = d .form in
-      rules-met _ (run-within m b 0 target-at 3 (nil (w .1) also nil (w .2) also nil (w .3) also tt) also ranged 1 4_294_967_295 (r symbol-at) (f .1 .1 .0 .0) (f .1 .1 .0 .1) also side-letter-fits (r side-at) (w .5) also sized-met (f .1 .1 .1 .1 .0) (f .1 .1 .1 .1 .1 .0) also tt))
+      rules-met _ (run-within m b 0 target-at target-cells (nil (w .1) also nil (w .2) also nil (w .3) also tt) also ranged 1 4_294_967_295 (r symbol-at) (f .1 .1 .0 .0) (f .1 .1 .0 .1) also side-letter-fits (r side-at) (w .5) also sized-met (f .1 .1 .1 .1 .0) (f .1 .1 .1 .1 .1 .0) also tt))
       (λ k d. let w = nine (d .written) in let f = d .form in
-      rules-met _ (run-within m b 0 symbol-at 2 (nil (w .4) also nil (w .5) also tt) also identifier-exactly (target-in r) .1 (f .1 .1 .0) also sized-met (f .1 .1 .1 .0) (f .1 .1 .1 .1 .0) also tt))
+      rules-met _ (run-within m b 0 symbol-at not-of-change (nil (w .4) also nil (w .5) also tt) also identifier-exactly (target-in r) .1 (f .1 .1 .0) also sized-met (f .1 .1 .1 .0) (f .1 .1 .1 .1 .0) also tt))
       (λ k d. let w = nine (d .written) in
-      rules-met _ (run-within m b 0 symbol-at 4 (nil (w .4) also nil (w .5) also nil (w .6) also nil (w .7) also tt) also identifier-exactly (target-in r) .1 (d .form .1 .1 .0) also tt))
+      rules-met _ (run-within m b 0 symbol-at not-of-cancel (nil (w .4) also nil (w .5) also nil (w .6) also nil (w .7) also tt) also identifier-exactly (target-in r) .1 (d .form .1 .1 .0) also tt))
       (λ k d. bare (d .written)) (λ k d. bare (d .written)) (λ ne d. absurd (ne (nine (d .written) .0)))
     where
       nil : {n : ℕ} → n ≡ 0 → n ≤ 0
       nil e = omega arith
 
-      bare : {k n : ℕ} → words-in r ≡ k ∷ n ∷ 0 ∷ 0 ∷ 0 ∷ 0 ∷ 0 ∷ 0 ∷ 0 ∷ [] → words-within m (b + target-at) 7 0 ≡ true
-      bare e = let w = nine e in run-within m b 0 target-at 7 (nil (w .1) also nil (w .2) also nil (w .3) also nil (w .4) also nil (w .5) also nil (w .6) also nil (w .7) also tt)
+      bare : {k n : ℕ} → words-in r ≡ k ∷ n ∷ 0 ∷ 0 ∷ 0 ∷ 0 ∷ 0 ∷ 0 ∷ 0 ∷ [] → words-within m (b + target-at) not-of-block 0 ≡ true
+      bare e = let w = nine e in run-within m b 0 target-at not-of-block (nil (w .1) also nil (w .2) also nil (w .3) also nil (w .4) also nil (w .5) also nil (w .6) also nil (w .7) also tt)
 
   -- a place's request, if its owner is a listed MPID
   pub request-read : Fits (mpid (key .owner .mpid)) → request-ok m i b ≡ true → request-fits (rows-of m keys i) r ≡ true
@@ -319,17 +319,17 @@ module _ (m : List ℕ) (i : ℕ) where
       let p = fits-exactly (price (word-at m ob order-price-at)) tt .0 (v .0) in
       rules-met _ (ranged 1 999_999_999_999 (word-at m ob order-price-at) (p .0) (p .1) also ranged 1 1_000_000 (word-at m ob order-size-at) (z .0) (z .1) also v .1 also o .done-most also tt)
 
-  pub unused-read : opens r ≡ false → words-within m ob 4 0 ≡ true → OrderRules
+  pub unused-read : opens r ≡ false → words-within m ob (width-of orders) 0 ≡ true → OrderRules
   unfolding figures-fit no-figures words-within
-  unused-read q e = let z : (k : ℕ) → k < 4 → word-at m ob k ≡ 0 = λ k lt. let h = leb-true (word-at m ob k) 0 (every-each (λ k. leb (word-at m ob k) 0) 4 e k lt) in omega arith in
+  unused-read q e = let z : (k : ℕ) → k < width-of orders → word-at m ob k ≡ 0 = λ k lt. let h = leb-true (word-at m ob k) 0 (every-each (λ k. leb (word-at m ob k) 0) (width-of orders) e k lt) in omega arith in
       let price-none = z order-price-at (omega arith) in let size-none = z order-size-at (omega arith) in let done-none = z done-at (omega arith) in
       record { figures = rw q (two (eq-eqb _ 0 price-none) (two (eq-eqb _ 0 size-none) (two (eq-eqb _ 0 done-none) (eq-eqb _ 0 (z cancel-asked-at (omega arith)))))); done-most = le-leb (word-at m ob done-at) (word-at m ob order-size-at) (omega arith) }
 
-  pub unused-met : opens r ≡ false → OrderRules → words-within m ob 4 0 ≡ true
+  pub unused-met : opens r ≡ false → OrderRules → words-within m ob (width-of orders) 0 ≡ true
   unfolding figures-fit no-figures
   unused-met q o =
       let w = both (rw q at (o .figures)) in
       let v = both (w .1) in
       let u = both (v .1) in
       let nil : (k : ℕ) → eqb (word-at m ob k) 0 ≡ true → word-at m ob k ≤ 0 = λ k q. omega (arith, eqb-true (word-at m ob k) 0 q) in
-      subst (λ (a : ℕ). words-within m a 4 0 ≡ true) (add-zero ob) (run-within m ob 0 order-price-at 4 (nil order-price-at (w .0) also nil order-size-at (v .0) also nil done-at (u .0) also nil cancel-asked-at (u .1) also tt))
+      subst (λ (a : ℕ). words-within m a (width-of orders) 0 ≡ true) (add-zero ob) (run-within m ob 0 order-price-at (width-of orders) (nil order-price-at (w .0) also nil order-size-at (v .0) also nil done-at (u .0) also nil cancel-asked-at (u .1) also tt))

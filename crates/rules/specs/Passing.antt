@@ -10,12 +10,12 @@ use Rattle.laws.specs.Numbered.{every, every-each, every-yes}
 use native.Mathlib.Omega.{arith}
 use borrow.Author.Tests.{lt-ltb, le-ltb, leb-true, le-leb}
 use Rattle.laws.specs.Checks.{all-hold, last-call, stop-call, pass-call, stop-most, pass-most}
-use Rattle.laws.specs.Rows.{Row, Region, region}
+use Rattle.laws.specs.Rows.{Row}
 use Rattle.rulebook.specs.Names.{bytes, Ident}
 use Rattle.rulebook.specs.Lines.{ceiling, from-to, letter, identifier, mpid}
 use Rattle.rulebook.specs.Rules.{is-kept}
 use Rattle.packing.specs.Fitting.{fits}
-use Rattle.books.specs.Layout.{least-words, layout, groups, symbols, keys, opened-at, last-at, groups-at, symbols-at, places-at, mpid-at, gross-trade-at, max-size-at, short-sales-at, traded-buys-at, traded-sells-at, open-buys-at, open-sells-at, id-at, bid-at, kind-at, number-at, target-at as target-cell, target-middle-at, target-tail-at, symbol-at, side-at, size-at, price-at, order-price-at, order-size-at, done-at, cancel-asked-at}
+use Rattle.books.specs.Layout.{least-words, groups, symbols, keys, requests, base-of, width-of, limit-cells, mark-cells, total-cells, target-cells, not-of-change, not-of-cancel, not-of-block, opened-at, last-at, groups-at, symbols-at, places-at, mpid-at, gross-trade-at, max-size-at, short-sales-at, traded-buys-at, traded-sells-at, open-buys-at, open-sells-at, id-at, bid-at, kind-at, number-at, target-at as target-cell, target-middle-at, target-tail-at, symbol-at, side-at, size-at, price-at, order-price-at, order-size-at, done-at, cancel-asked-at}
 use Rattle.books.specs.View.{flag, key-in, rows-of}
 
 -- the words of a row are there
@@ -28,7 +28,7 @@ pub record HasSymbol (m : List ℕ) (i : ℕ) : Type 0 where
   pub room : least-words ≤ length m
 
 pub record HasRow (m : List ℕ) (b : ℕ) : Type 0 where
-  pub room : b + 9 ≤ length m
+  pub room : b + width-of requests ≤ length m
 
 -- each of n words from a place on is at most so much
 unfoldable pub words-within : List ℕ → ℕ → ℕ → ℕ → Bool
@@ -45,22 +45,19 @@ head-ok room h = all-hold (leb (h opened-at) 1 ∷ leb (h last-at) 4_294_967_295
 abbrev pub word-at : List ℕ → ℕ → ℕ → ℕ
 word-at m b k = getD m (b + k) 0
 
-abbrev pub start : Region → ℕ → ℕ
-start R i = R .base + i * R .width
-
 abbrev pub group-start : ℕ → ℕ
-group-start i = start (region (layout 0) groups) i
+group-start i = base-of groups + i * width-of groups
 
 abbrev pub symbol-start : ℕ → ℕ
-symbol-start i = start (region (layout 0) symbols) i
+symbol-start i = base-of symbols + i * width-of symbols
 
 unfoldable pub totals-ok : List ℕ → ℕ → Bool
 totals-ok m i = let b = group-start i in
-    all-hold (words-within m (b + traded-buys-at) 4 ceiling ∷ leb (word-at m b traded-buys-at + word-at m b traded-sells-at + (word-at m b open-buys-at + word-at m b open-sells-at)) ceiling ∷ early (getD m opened-at 0) (words-within m (b + traded-buys-at) 4 0) ∷ [])
+    all-hold (words-within m (b + traded-buys-at) total-cells ceiling ∷ leb (word-at m b traded-buys-at + word-at m b traded-sells-at + (word-at m b open-buys-at + word-at m b open-sells-at)) ceiling ∷ early (getD m opened-at 0) (words-within m (b + traded-buys-at) total-cells 0) ∷ [])
 
 unfoldable pub group-ok : List ℕ → ℕ → Bool
 group-ok m i = let b = group-start i in
-    all-hold (fits (mpid (record { code = word-at m b mpid-at })) ∷ words-within m (b + gross-trade-at) 6 ceiling ∷ from-to 1 1_000_000 (word-at m b max-size-at) ∷ words-within m (b + short-sales-at) 2 1 ∷ totals-ok m i ∷ [])
+    all-hold (fits (mpid (record { code = word-at m b mpid-at })) ∷ words-within m (b + gross-trade-at) limit-cells ceiling ∷ from-to 1 1_000_000 (word-at m b max-size-at) ∷ words-within m (b + short-sales-at) mark-cells 1 ∷ totals-ok m i ∷ [])
 
 unfoldable pub symbol-ok : List ℕ → ℕ → Bool
 symbol-ok m i = let b = symbol-start i in all-hold (from-to 1 4_294_967_295 (word-at m b id-at) ∷ words-within m (b + bid-at) 2 999_999_999_999 ∷ [])
@@ -72,24 +69,24 @@ unfoldable pub sized-ok : List ℕ → ℕ → Bool
 sized-ok m b = all-hold (from-to 1 1_000_000 (word-at m b size-at) ∷ from-to 1 999_999_999_999 (word-at m b price-at) ∷ [])
 
 unfoldable pub new-ok : List ℕ → ℕ → Bool
-new-ok m b = all-hold (words-within m (b + target-cell) 3 0 ∷ from-to 1 4_294_967_295 (word-at m b symbol-at) ∷ fits (letter (bytes "BSHE") (word-at m b side-at)) ∷ sized-ok m b ∷ [])
+new-ok m b = all-hold (words-within m (b + target-cell) target-cells 0 ∷ from-to 1 4_294_967_295 (word-at m b symbol-at) ∷ fits (letter (bytes "BSHE") (word-at m b side-at)) ∷ sized-ok m b ∷ [])
 
 abbrev pub target-at : List ℕ → ℕ → Ident
 target-at m b = record { head = word-at m b target-cell; middle = word-at m b target-middle-at; tail = word-at m b target-tail-at }
 
 unfoldable pub change-ok : List ℕ → ℕ → Bool
-change-ok m b = all-hold (words-within m (b + symbol-at) 2 0 ∷ fits (identifier (target-at m b)) ∷ sized-ok m b ∷ [])
+change-ok m b = all-hold (words-within m (b + symbol-at) not-of-change 0 ∷ fits (identifier (target-at m b)) ∷ sized-ok m b ∷ [])
 
 unfoldable pub cancel-ok : List ℕ → ℕ → Bool
-cancel-ok m b = all-hold (words-within m (b + symbol-at) 4 0 ∷ fits (identifier (target-at m b)) ∷ [])
+cancel-ok m b = all-hold (words-within m (b + symbol-at) not-of-cancel 0 ∷ fits (identifier (target-at m b)) ∷ [])
 
 unfoldable pub deal-ok : List ℕ → ℕ → Bool
 deal-ok m b = let kind = word-at m b kind-at in
     cond (eqb kind (code "N")) (new-ok m b)
     (cond (eqb kind (code "M")) (change-ok m b)
     (cond (eqb kind (code "C")) (cancel-ok m b)
-    (cond (eqb kind (code "B")) (words-within m (b + target-cell) 7 0)
-    (cond (eqb kind (code "R")) (words-within m (b + target-cell) 7 0) false))))
+    (cond (eqb kind (code "B")) (words-within m (b + target-cell) not-of-block 0)
+    (cond (eqb kind (code "R")) (words-within m (b + target-cell) not-of-block 0) false))))
 
 unfoldable pub request-ok : List ℕ → ℕ → ℕ → Bool
 request-ok m i b =

@@ -4,7 +4,7 @@ use packing::Ident;
 ghost use mathlib.Core.Path.{_≡_};
 ghost use Prim.Native.Nat.{_+_, _≤_, _<_};
 ghost use lib.ListN.{length};
-ghost use Rattle.books.specs.Layout.{least-words, room-of, HasKeys};
+ghost use Rattle.books.specs.Layout.{least-words, room-of, orders, width-of, HasKeys};
 ghost use Rattle.books.specs.View.{head-in, rows-of};
 ghost use Rattle.packing.specs.Fitting.{fits};
 ghost use Rattle.rulebook.specs.Lines.{identifier};
@@ -19,6 +19,23 @@ const MOST_SIZE: u64 = 1_000_000;
 const MOST_PRICE: u64 = 999_999_999_999;
 
 const CEILING: u64 = 4_000_000_000_000_000_000;
+
+// How many cells there are of limits, marks, totals, quotes and of a target, and of what an M, a C, and a B or R have not.
+const LIMITS: usize = books::MAX_SIZE - books::GROSS_TRADE;
+
+const MARKS: usize = books::TRADED_BUYS - books::SHORT_SALES;
+
+const TOTALS: usize = books::GROUP_WORDS - books::TRADED_BUYS;
+
+const QUOTES: usize = books::SYMBOL_WORDS - books::BID;
+
+const TARGET_WORDS: usize = books::SYMBOL - books::TARGET;
+
+const NOT_OF_CHANGE: usize = books::SIZE - books::SYMBOL;
+
+const NOT_OF_CANCEL: usize = books::REQUEST_WORDS - books::SYMBOL;
+
+const NOT_OF_BLOCK: usize = books::REQUEST_WORDS - books::TARGET;
 
 // The letters of the requests' kinds.
 const NEW: u64 = 78;
@@ -78,7 +95,7 @@ fn totals_ok(mem: &[u64], i: usize) -> bool
     ensures { λ r. ⌜ r ≡ totals-ok (now (mem .entry)) i ⌝ }
 {
     let b = books::GROUPS + i * books::GROUP_WORDS;
-    if !within(mem, b + books::TRADED_BUYS, 4, CEILING) {
+    if !within(mem, b + books::TRADED_BUYS, TOTALS, CEILING) {
         return false;
     }
     let traded = mem[b + books::TRADED_BUYS] + mem[b + books::TRADED_SELLS];
@@ -89,7 +106,7 @@ fn totals_ok(mem: &[u64], i: usize) -> bool
     if mem[books::OPENED] > 0 {
         return true;
     }
-    within(mem, b + books::TRADED_BUYS, 4, 0)
+    within(mem, b + books::TRADED_BUYS, TOTALS, 0)
 }
 
 // Whether a listed group's words are in range.
@@ -101,13 +118,13 @@ pub fn group_ok(mem: &[u64], i: usize) -> bool
     if !packing::is_mpid(mem[b + books::GROUP_MPID]) {
         return false;
     }
-    if !within(mem, b + books::GROSS_TRADE, 6, CEILING) {
+    if !within(mem, b + books::GROSS_TRADE, LIMITS, CEILING) {
         return false;
     }
     if !packing::in_range(1, MOST_SIZE, mem[b + books::MAX_SIZE]) {
         return false;
     }
-    if !within(mem, b + books::SHORT_SALES, 2, 1) {
+    if !within(mem, b + books::SHORT_SALES, MARKS, 1) {
         return false;
     }
     totals_ok(mem, i)
@@ -122,7 +139,7 @@ pub fn symbol_ok(mem: &[u64], i: usize) -> bool
     if !packing::in_range(1, MOST_SERIAL, mem[b + books::SYMBOL_ID]) {
         return false;
     }
-    within(mem, b + books::BID, 2, MOST_PRICE)
+    within(mem, b + books::BID, QUOTES, MOST_PRICE)
 }
 
 // Whether a number is one that the table remembers: 0, or 8 to 17.
@@ -151,7 +168,7 @@ fn new_ok(mem: &[u64], b: usize) -> bool
     requires { ⌜ HasRow (now mem) b ⌝ }
     ensures { λ r. ⌜ r ≡ new-ok (now (mem .entry)) b ⌝ }
 {
-    if !within(mem, b + books::TARGET, 3, 0) {
+    if !within(mem, b + books::TARGET, TARGET_WORDS, 0) {
         return false;
     }
     if !packing::in_range(1, MOST_SERIAL, mem[b + books::SYMBOL]) {
@@ -180,7 +197,7 @@ fn change_ok(mem: &[u64], b: usize) -> bool
     requires { ⌜ HasRow (now mem) b ⌝ }
     ensures { λ r. ⌜ r ≡ change-ok (now (mem .entry)) b ⌝ }
 {
-    if !within(mem, b + books::SYMBOL, 2, 0) {
+    if !within(mem, b + books::SYMBOL, NOT_OF_CHANGE, 0) {
         return false;
     }
     if !target_ok(mem, b) {
@@ -194,7 +211,7 @@ fn cancel_ok(mem: &[u64], b: usize) -> bool
     requires { ⌜ HasRow (now mem) b ⌝ }
     ensures { λ r. ⌜ r ≡ cancel-ok (now (mem .entry)) b ⌝ }
 {
-    if !within(mem, b + books::SYMBOL, 4, 0) {
+    if !within(mem, b + books::SYMBOL, NOT_OF_CANCEL, 0) {
         return false;
     }
     target_ok(mem, b)
@@ -216,10 +233,10 @@ fn deal_ok(mem: &[u64], b: usize) -> bool
         return cancel_ok(mem, b);
     }
     if kind == BLOCK {
-        return within(mem, b + books::TARGET, 7, 0);
+        return within(mem, b + books::TARGET, NOT_OF_BLOCK, 0);
     }
     if kind == UNBLOCK {
-        return within(mem, b + books::TARGET, 7, 0);
+        return within(mem, b + books::TARGET, NOT_OF_BLOCK, 0);
     }
     false
 }
@@ -260,7 +277,7 @@ pub fn opens(mem: &[u64], b: usize) -> bool
 
 // Whether the figures of an order, at b, are in range, done at most its size.
 pub fn figures_ok(mem: &[u64], b: usize) -> bool
-    requires { ⌜ b + 4 ≤ length (now mem) ⌝ }
+    requires { ⌜ b + width-of orders ≤ length (now mem) ⌝ }
     ensures { λ r. ⌜ r ≡ figures-ok (now (mem .entry)) b ⌝ }
 {
     if !packing::in_range(1, MOST_PRICE, mem[b + books::ORDER_PRICE]) {
@@ -277,8 +294,8 @@ pub fn figures_ok(mem: &[u64], b: usize) -> bool
 
 // Whether the figures of a place that has no order, at b, are 0.
 pub fn no_figures(mem: &[u64], b: usize) -> bool
-    requires { ⌜ b + 4 ≤ length (now mem) ⌝ }
-    ensures { λ r. ⌜ r ≡ words-within (now (mem .entry)) b 4 0 ⌝ }
+    requires { ⌜ b + width-of orders ≤ length (now mem) ⌝ }
+    ensures { λ r. ⌜ r ≡ words-within (now (mem .entry)) b (width-of orders) 0 ⌝ }
 {
     within(mem, b, books::ORDER_WORDS, 0)
 }

@@ -8,10 +8,9 @@ use lib.ListN.{getD}
 use borrow.Author.Tests.{eq-eqb}
 use Rattle.laws.specs.Tests.{eqb-exact, exact-sym}
 use Rattle.laws.specs.Numbered.{every, apart, apart-each, least-at, least-is}
-use Rattle.laws.specs.Rows.{Sheet}
 use Rattle.laws.specs.Checks.{all-hold}
-use Rattle.rulebook.specs.Names.{Mpid, same-mpid}
-use Rattle.books.specs.Layout.{groups, symbols, requests, mpid-at, id-at, symbol-at, groups-at, symbols-at}
+use Rattle.rulebook.specs.Names.{same-mpid}
+use Rattle.books.specs.Layout.{orders, width-of, groups, symbols, requests, id-at, symbol-at, symbols-at}
 use Rattle.books.specs.View.{mpid-in, head-in, rows-of, opens-of, asked-of}
 use Rattle.books.specs.Writing.{group-index, symbol-index}
 use Rattle.chains.specs.Words.{same-row}
@@ -28,7 +27,7 @@ same-id m i j = eqb (rows-of m symbols i id-at) (rows-of m symbols j id-at)
 
 -- an order's figures are in range and its symbol is listed; a place without one has none
 unfoldable pub figures-right : List ℕ → ℕ → Bool
-figures-right m i = cond (opens-of (rows-of m) i) (all-hold (figures-ok m (order-start m i) ∷ ltb (symbol-index (rows-of m) (rows-of m requests i symbol-at)) (head-in (rows-of m) symbols-at) ∷ [])) (words-within m (order-start m i) 4 0)
+figures-right m i = cond (opens-of (rows-of m) i) (all-hold (figures-ok m (order-start m i) ∷ ltb (symbol-index (rows-of m) (rows-of m requests i symbol-at)) (head-in (rows-of m) symbols-at) ∷ [])) (words-within m (order-start m i) (width-of orders) 0)
 
 unfoldable pub place-ok : List ℕ → ℕ → Bool
 place-ok m i = all-hold (request-ok m i (request-start m i) ∷ figures-right m i ∷ [])

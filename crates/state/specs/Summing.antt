@@ -20,7 +20,7 @@ use Rattle.rulebook.specs.Names.{same-mpid}
 use Rattle.rulebook.specs.Lines.{ceiling, buy, sell, short, exempt, is-buy}
 use Rattle.rulebook.specs.Cases.{in-range}
 use Rattle.rulebook.specs.Kept.{open-value, is-of, worth}
-use Rattle.books.specs.Layout.{groups, groups-at, places-at, mpid-at, open-buys-at, open-sells-at, order-price-at, order-size-at, done-at}
+use Rattle.books.specs.Layout.{orders, width-of, groups, groups-at, places-at, mpid-at, open-buys-at, open-sells-at, order-price-at, order-size-at, done-at}
 use Rattle.books.specs.View.{mpid-in, head-in, rows-of, opens-of, order-of, orders-in}
 use Rattle.books.specs.Writing.{group-index}
 use Rattle.books.specs.Refining.{Counted}
@@ -215,7 +215,7 @@ sums-compared S sums s g lt = rw (s .each g true lt, s .each g false lt, sums-re
 -- ── an order's value in the code ──
 -- an order's words are there, and in range
 pub record Priced (m : List ℕ) (b : ℕ) : Type 0 where
-  pub room : b + 4 ≤ length m
+  pub room : b + width-of orders ≤ length m
   pub done-most : word-at m b done-at ≤ word-at m b order-size-at
   pub value-most : (word-at m b order-size-at - word-at m b done-at) * word-at m b order-price-at ≤ 999_999_999_999_000_000
 

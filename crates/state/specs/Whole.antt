@@ -14,7 +14,7 @@ use Rattle.laws.specs.Tables.{_also_}
 use Rattle.laws.specs.Numbered.{every, every-each, every-yes, every-no, apart, least, least-is}
 use Rattle.rulebook.specs.Names.{same-mpid, mpid-exact}
 use Rattle.rulebook.specs.Lines.{ceiling, Fits, mpid}
-use Rattle.books.specs.Layout.{least-words, room-of, groups, keys, requests, owner-at, name-at, name-middle-at, name-tail-at, symbol-at, opened-at, groups-at, symbols-at, places-at, traded-buys-at, open-buys-at, open-sells-at}
+use Rattle.books.specs.Layout.{symbols, base-of, width-of, total-cells, orders, least-words, room-of, groups, keys, requests, owner-at, name-at, name-middle-at, name-tail-at, symbol-at, opened-at, groups-at, symbols-at, places-at, traded-buys-at, open-buys-at, open-sells-at}
 use Rattle.books.specs.View.{flag, mpid-in, head-in, asked-of, opens-of, rows-of, same-place}
 use Rattle.books.specs.Writing.{group-index, symbol-index}
 use Rattle.packing.specs.Exactly.{mpid-exactly}
@@ -36,13 +36,13 @@ table-ok m = all-hold (every (fine m) (head-in (rows-of m) places-at) ∷ every 
 
 unfoldable pub listed-ok : List ℕ → Bool
 listed-ok m = let h = head-in (rows-of m) in
-    all-hold (every (group-ok m) (h groups-at) ∷ every (symbol-ok m) (h symbols-at) ∷ apart (same-row m 5 14 1) (h groups-at) ∷ apart (same-row m 901 3 1) (h symbols-at) ∷ [])
+    all-hold (every (group-ok m) (h groups-at) ∷ every (symbol-ok m) (h symbols-at) ∷ apart (same-row m (base-of groups) (width-of groups) 1) (h groups-at) ∷ apart (same-row m (base-of symbols) (width-of symbols) 1) (h symbols-at) ∷ [])
 
 -- the groups and symbols that the pass over the table relies on
 pub record Listed (m : List ℕ) : Type 0 where
   pub counts : Counted m
-  pub desks-apart : apart (same-row m 5 14 1) (head-in (rows-of m) groups-at) ≡ true
-  pub ids-apart : apart (same-row m 901 3 1) (head-in (rows-of m) symbols-at) ≡ true
+  pub desks-apart : apart (same-row m (base-of groups) (width-of groups) 1) (head-in (rows-of m) groups-at) ≡ true
+  pub ids-apart : apart (same-row m (base-of symbols) (width-of symbols) 1) (head-in (rows-of m) symbols-at) ≡ true
   pub totals : (g : ℕ) → g < head-in (rows-of m) groups-at → (rows-of m groups g open-buys-at ≤ ceiling) × (rows-of m groups g open-sells-at ≤ ceiling)
 
 -- what the pass answers
@@ -54,14 +54,14 @@ pub record Tallied (m sums : List ℕ) (r : Bool) : Type 0 where
   pub bad : r ≡ false → Faulty m
 
 unfoldable pub passes : List ℕ → Bool
-passes m = all-hold (leb least-words (length m) ∷ head-ok (room-of m) (head-in (rows-of m)) ∷ listed-ok m ∷ table-ok m ∷ apart (same-row m 1669 4 4) (head-in (rows-of m) places-at) ∷ [])
+passes m = all-hold (leb least-words (length m) ∷ head-ok (room-of m) (head-in (rows-of m)) ∷ listed-ok m ∷ table-ok m ∷ apart (same-row m (base-of keys) (width-of keys) (width-of keys)) (head-in (rows-of m) places-at) ∷ [])
 
 -- ── rows that begin with the same words ──
-pub desks-same : (m : List ℕ) → same-row m 5 14 1 ≡ same-desk m
+pub desks-same : (m : List ℕ) → same-row m (base-of groups) (width-of groups) 1 ≡ same-desk m
 unfolding same-row every
 desks-same m = refl
 
-pub ids-same : (m : List ℕ) → same-row m 901 3 1 ≡ same-id m
+pub ids-same : (m : List ℕ) → same-row m (base-of symbols) (width-of symbols) 1 ≡ same-id m
 unfolding same-row every
 ids-same m = refl
 
@@ -71,7 +71,7 @@ four true true false d = refl
 four true false c d = refl
 four false b c d = refl
 
-pub places-same : (m : List ℕ) → same-row m 1669 4 4 ≡ same-place (rows-of m)
+pub places-same : (m : List ℕ) → same-row m (base-of keys) (width-of keys) (width-of keys) ≡ same-place (rows-of m)
 unfolding same-row every
 places-same m = let same : ℕ → ℕ → ℕ → Bool = λ k i j. eqb (rows-of m keys i k) (rows-of m keys j k) in
     fun-ext (λ i. fun-ext (λ j. four (same owner-at i j) (same name-at i j) (same name-middle-at i j) (same name-tail-at i j)))
@@ -117,8 +117,8 @@ place-met : (m : List ℕ) (i : ℕ) → PlaceRules m i → place-ok m i ≡ tru
 unfolding place-ok figures-right symbol-listed
 place-met m i p = rules-met _ (request-met m i (p .request) also part also tt)
   where
-    part : cond (opens-of (rows-of m) i) (all-hold (figures-ok m (order-start m i) ∷ ltb (symbol-index (rows-of m) (rows-of m requests i symbol-at)) (head-in (rows-of m) symbols-at) ∷ [])) (words-within m (order-start m i) 4 0) ≡ true
-    part = on (λ b. opens-of (rows-of m) i ≡ b → cond b (all-hold (figures-ok m (order-start m i) ∷ ltb (symbol-index (rows-of m) (rows-of m requests i symbol-at)) (head-in (rows-of m) symbols-at) ∷ [])) (words-within m (order-start m i) 4 0) ≡ true) (opens-of (rows-of m) i)
+    part : cond (opens-of (rows-of m) i) (all-hold (figures-ok m (order-start m i) ∷ ltb (symbol-index (rows-of m) (rows-of m requests i symbol-at)) (head-in (rows-of m) symbols-at) ∷ [])) (words-within m (order-start m i) (width-of orders) 0) ≡ true
+    part = on (λ b. opens-of (rows-of m) i ≡ b → cond b (all-hold (figures-ok m (order-start m i) ∷ ltb (symbol-index (rows-of m) (rows-of m requests i symbol-at)) (head-in (rows-of m) symbols-at) ∷ [])) (words-within m (order-start m i) (width-of orders) 0) ≡ true) (opens-of (rows-of m) i)
         (λ z q. rules-met _ (order-met m i q (p .order) also (rw q at (p .symbol)) also tt)) (λ z q. unused-met m i q (p .order)) refl
 
 fine-read : (m : List ℕ) (i : ℕ) → fine m i ≡ true → (desk-listed (rows-of m) i ≡ true) × (place-ok m i ≡ true)
@@ -236,7 +236,7 @@ group-totals : (m : List ℕ) (g : ℕ) → group-ok m g ≡ true → (rows-of m
 unfolding group-ok totals-ok
 group-totals m g e =
     let t = rules-read _ (rules-read _ e .1 .1 .1 .1 .0) in
-    let most : (k : ℕ) → traded-buys-at ≤ k → k < traded-buys-at + 4 → word-at m (group-start g) k ≤ ceiling = word-within m (group-start g) traded-buys-at 4 ceiling (t .0) in
+    let most : (k : ℕ) → traded-buys-at ≤ k → k < traded-buys-at + total-cells → word-at m (group-start g) k ≤ ceiling = word-within m (group-start g) traded-buys-at total-cells ceiling (t .0) in
     (most open-buys-at (omega arith) (omega arith), most open-sells-at (omega arith) (omega arith))
 
 pub listed-by : (m : List ℕ) → Counted m → listed-ok m ≡ true → Listed m

@@ -5,9 +5,8 @@ ghost use mathlib.Core.Bool.{true, false};
 ghost use Prim.Native.Nat.{_+_, _≤_, _<_};
 ghost use lib.ListN.{length};
 ghost use Rattle.laws.specs.Numbered.{every, apart};
-ghost use Rattle.books.specs.Layout.{room-of, groups-at, symbols-at, places-at};
+ghost use Rattle.books.specs.Layout.{groups, symbols, base-of, width-of, room-of, groups-at, symbols-at, places-at};
 ghost use Rattle.books.specs.View.{head-in, rows-of};
-ghost use Rattle.books.specs.Writing.{group-index, symbol-index};
 ghost use Rattle.books.specs.Refining.{Counted};
 ghost use Rattle.chains.specs.Words.{HasRows, same-row};
 ghost use Rattle.store.specs.Finding.{first-row};
@@ -18,7 +17,7 @@ ghost use Rattle.rulebook.specs.Lines.{is-buy};
 ghost use Rattle.fields.specs.Series.{side-of};
 ghost use Rattle.state.specs.Summing.{Sums, Added, Due, Priced, value-at, slot};
 ghost use Rattle.state.specs.Whole.{Listed, Tallied, table-ok, listed-ok};
-ghost use Rattle.state.specs.Places.{same-desk, same-id, figures-right, place-ok, desk-at};
+ghost use Rattle.state.specs.Places.{figures-right, place-ok, desk-at};
 
 const CEILING: u64 = 4_000_000_000_000_000_000;
 
@@ -130,7 +129,7 @@ fn order_at(mem: &[u64], i: usize) -> usize
 // Whether a place holds an order with figures in range and a listed symbol, or none and figures of 0.
 fn order_ok(mem: &[u64], ids: &mut [u16], i: usize) -> bool
     requires { ⌜ Counted (now mem) ⌝ }
-    requires { ⌜ apart (same-row (now mem) 901 3 1) (head-in (rows-of (now mem)) symbols-at) ≡ true ⌝ }
+    requires { ⌜ apart (same-row (now mem) (base-of symbols) (width-of symbols) 1) (head-in (rows-of (now mem)) symbols-at) ≡ true ⌝ }
     requires { ⌜ 1021 ≤ length (now ids) ⌝ }
     requires { ⌜ i < room-of (now mem) ⌝ }
     ensures { λ r. ⌜ r ≡ figures-right (now (mem .entry)) i ⌝ }
@@ -151,7 +150,7 @@ fn order_ok(mem: &[u64], ids: &mut [u16], i: usize) -> bool
 // Whether a taken place's request is in range, and so is its order.
 fn place_ok(mem: &[u64], ids: &mut [u16], i: usize) -> bool
     requires { ⌜ Counted (now mem) ⌝ }
-    requires { ⌜ apart (same-row (now mem) 901 3 1) (head-in (rows-of (now mem)) symbols-at) ≡ true ⌝ }
+    requires { ⌜ apart (same-row (now mem) (base-of symbols) (width-of symbols) 1) (head-in (rows-of (now mem)) symbols-at) ≡ true ⌝ }
     requires { ⌜ 1021 ≤ length (now ids) ⌝ }
     requires { ⌜ i < room-of (now mem) ⌝ }
     ensures { λ r. ⌜ r ≡ place-ok (now (mem .entry)) i ⌝ }
@@ -165,7 +164,7 @@ fn place_ok(mem: &[u64], ids: &mut [u16], i: usize) -> bool
 // The place among the groups of a taken place's owner, or how many groups are listed.
 fn desk_of(mem: &[u64], desks: &mut [u16], i: usize) -> usize
     requires { ⌜ Counted (now mem) ⌝ }
-    requires { ⌜ apart (same-row (now mem) 5 14 1) (head-in (rows-of (now mem)) groups-at) ≡ true ⌝ }
+    requires { ⌜ apart (same-row (now mem) (base-of groups) (width-of groups) 1) (head-in (rows-of (now mem)) groups-at) ≡ true ⌝ }
     requires { ⌜ 1021 ≤ length (now desks) ⌝ }
     requires { ⌜ i < room-of (now mem) ⌝ }
     ensures { λ r. ⌜ r ≡ desk-at (now (mem .entry)) i ⌝ }

@@ -1,6 +1,5 @@
 -- Each public call's statement allows one answer only, and one memory where it writes. The claims are about the contracts themselves (`Post`).
 use mathlib.Core.Path.{_≡_, refl, sym, _∙_}
-use Prim.Native.Nat.{ℕ}
 use native.Mathlib.Omega.{arith}
 use Rattle.store.proofs.room.Kinds as room-kinds
 use Rattle.store.proofs.room.Reads as room-reads

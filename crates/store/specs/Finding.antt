@@ -11,7 +11,7 @@ use Rattle.laws.specs.Numbered.{least, least-at, least-none}
 use Rattle.laws.specs.Rows.{Sheet}
 use Rattle.rulebook.specs.Names.{Mpid, Key, same-key}
 use Rattle.packing.specs.Words.{named}
-use Rattle.books.specs.Layout.{keys, groups-at, symbols-at, places-at}
+use Rattle.books.specs.Layout.{groups, symbols, base-of, width-of, keys, groups-at, symbols-at, places-at}
 use Rattle.books.specs.View.{head-in, key-in, rows-of}
 use Rattle.books.specs.Writing.{group-index, symbol-index}
 use Rattle.store.specs.declared.Key.{Key as KeyWords}
@@ -29,11 +29,11 @@ named-by k = record { owner = record { mpid = mpid-word (k .owner) }; name = nam
 unfoldable pub first-row : List ℕ → ℕ → ℕ → ℕ → ℕ → ℕ
 first-row m at width n w = least (λ i. eqb w (getD m (at + i * width + 0) 0)) n
 
-pub first-group : (m : List ℕ) (w : ℕ) → first-row m 5 14 (head-in (rows-of m) groups-at) w ≡ group-index (rows-of m) (mpid-word w)
+pub first-group : (m : List ℕ) (w : ℕ) → first-row m (base-of groups) (width-of groups) (head-in (rows-of m) groups-at) w ≡ group-index (rows-of m) (mpid-word w)
 unfolding first-row group-index
 first-group m w = refl
 
-pub first-symbol : (m : List ℕ) (w : ℕ) → first-row m 901 3 (head-in (rows-of m) symbols-at) w ≡ symbol-index (rows-of m) w
+pub first-symbol : (m : List ℕ) (w : ℕ) → first-row m (base-of symbols) (width-of symbols) (head-in (rows-of m) symbols-at) w ≡ symbol-index (rows-of m) w
 unfolding first-row symbol-index
 first-symbol m w = refl
 

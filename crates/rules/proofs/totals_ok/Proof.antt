@@ -5,6 +5,7 @@ use mathlib.Core.Path.{sym, _∙_}
 use Prim.Native.Nat.{_-_}
 use native.Mathlib.Omega.{arith}
 use borrow.Author.Tests.{not-false}
+use Rattle.books.specs.Layout.{traded-buys-at, traded-sells-at, open-buys-at, open-sells-at, total-cells}
 use Rattle.rules.specs.Passing.{totals-ok, totals-tried, word-within}
 use Rattle.rules.proofs.totals_ok.Tie as tie
 
@@ -43,7 +44,7 @@ shared-slice-read-traded-2 : tie.Need-shared-slice-read-traded-2
 shared-slice-read-traded-2 c = search needs
 
 add-traded-3 : tie.Need-add-traded-3
-add-traded-3 c = omega (arith, word-within _ _ 10 4 _ (sym (c .before .before .before .within .ensures) ∙ not-false _ (c .before .before .if1 .left)) 10 (omega arith) (omega arith), word-within _ _ 10 4 _ (sym (c .before .before .before .within .ensures) ∙ not-false _ (c .before .before .if1 .left)) 11 (omega arith) (omega arith))
+add-traded-3 c = omega (arith, word-within _ _ traded-buys-at total-cells _ (sym (c .before .before .before .within .ensures) ∙ not-false _ (c .before .before .if1 .left)) traded-buys-at (omega arith) (omega arith), word-within _ _ traded-buys-at total-cells _ (sym (c .before .before .before .within .ensures) ∙ not-false _ (c .before .before .if1 .left)) traded-sells-at (omega arith) (omega arith))
 
 add-open : tie.Need-add-open
 add-open c = search needs
@@ -64,10 +65,10 @@ shared-slice-read-open-2 : tie.Need-shared-slice-read-open-2
 shared-slice-read-open-2 c = search needs
 
 add-open-3 : tie.Need-add-open-3
-add-open-3 c = omega (arith, word-within _ _ 10 4 _ (sym (c .before .before .before .before .before .within .ensures) ∙ not-false _ (c .before .before .before .before .if1 .left)) 12 (omega arith) (omega arith), word-within _ _ 10 4 _ (sym (c .before .before .before .before .before .within .ensures) ∙ not-false _ (c .before .before .before .before .if1 .left)) 13 (omega arith) (omega arith))
+add-open-3 c = omega (arith, word-within _ _ traded-buys-at total-cells _ (sym (c .before .before .before .before .before .within .ensures) ∙ not-false _ (c .before .before .before .before .if1 .left)) open-buys-at (omega arith) (omega arith), word-within _ _ traded-buys-at total-cells _ (sym (c .before .before .before .before .before .within .ensures) ∙ not-false _ (c .before .before .before .before .if1 .left)) open-sells-at (omega arith) (omega arith))
 
 add-if2 : tie.Need-add-if2
-add-if2 c = omega (arith, word-within _ _ 10 4 _ (sym (c .before .before .before .before .before .within .ensures) ∙ not-false _ (c .before .before .before .before .if1 .left)) 10 (omega arith) (omega arith), word-within _ _ 10 4 _ (sym (c .before .before .before .before .before .within .ensures) ∙ not-false _ (c .before .before .before .before .if1 .left)) 11 (omega arith) (omega arith), word-within _ _ 10 4 _ (sym (c .before .before .before .before .before .within .ensures) ∙ not-false _ (c .before .before .before .before .if1 .left)) 12 (omega arith) (omega arith), word-within _ _ 10 4 _ (sym (c .before .before .before .before .before .within .ensures) ∙ not-false _ (c .before .before .before .before .if1 .left)) 13 (omega arith) (omega arith))
+add-if2 c = omega (arith, word-within _ _ traded-buys-at total-cells _ (sym (c .before .before .before .before .before .within .ensures) ∙ not-false _ (c .before .before .before .before .if1 .left)) traded-buys-at (omega arith) (omega arith), word-within _ _ traded-buys-at total-cells _ (sym (c .before .before .before .before .before .within .ensures) ∙ not-false _ (c .before .before .before .before .if1 .left)) traded-sells-at (omega arith) (omega arith), word-within _ _ traded-buys-at total-cells _ (sym (c .before .before .before .before .before .within .ensures) ∙ not-false _ (c .before .before .before .before .if1 .left)) open-buys-at (omega arith) (omega arith), word-within _ _ traded-buys-at total-cells _ (sym (c .before .before .before .before .before .within .ensures) ∙ not-false _ (c .before .before .before .before .if1 .left)) open-sells-at (omega arith) (omega arith))
 
 returns-2 : tie.Need-returns-2
 unfolding totals-ok

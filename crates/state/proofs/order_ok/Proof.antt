@@ -8,7 +8,7 @@ use lib.Dec.{ltb}
 use lib.ListN.{getD}
 use Rattle.laws.specs.Checks.{last-call, pass-call, stop-call}
 use Rattle.rules.specs.Passing.{is-order, words-within, figures-ok}
-use Rattle.books.specs.Layout.{symbol-at, symbols-at}
+use Rattle.books.specs.Layout.{orders, width-of, symbol-at, symbols-at}
 use Rattle.books.specs.View.{rows-of, head-in}
 use Rattle.store.specs.Finding.{first-symbol}
 use Rattle.state.specs.Places.{figures-right}
@@ -30,7 +30,7 @@ no-figures-requires c κs = search needs
 
 returns : tie.Need-returns
 unfolding figures-right
-returns c = rw (sym (c .before .before .opens .ensures ∙ ap (is-order (c .before .before .before .before .before .before .before .args .mem .now)) (c .before .before .before .before .request-at .ensures) ∙ is-order-is (c .before .before .before .before .before .before .before .args .mem .now) (c .before .before .before .before .before .before .before .args .i)) ∙ not-true _ (c .before .if1 .taken)) (c .no-figures .ensures ∙ ap (λ o. words-within (c .before .before .before .before .before .before .before .args .mem .now) o 4 0) (c .before .before .before .order-at .ensures))
+returns c = rw (sym (c .before .before .opens .ensures ∙ ap (is-order (c .before .before .before .before .before .before .before .args .mem .now)) (c .before .before .before .before .request-at .ensures) ∙ is-order-is (c .before .before .before .before .before .before .before .args .mem .now) (c .before .before .before .before .before .before .before .args .i)) ∙ not-true _ (c .before .if1 .taken)) (c .no-figures .ensures ∙ ap (λ o. words-within (c .before .before .before .before .before .before .before .args .mem .now) o (width-of orders) 0) (c .before .before .before .order-at .ensures))
 
 figures-ok-requires : tie.Need-figures-ok-requires
 figures-ok-requires c κs = search needs
