@@ -5,3 +5,4 @@ pub mod Fitting
 pub mod Spelling
 pub mod Exactly
 pub mod Sizes
+pub mod Together

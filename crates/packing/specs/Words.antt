@@ -1,7 +1,7 @@
 -- Document 01, "The day's lines", identifiers and MPIDs: the bytes that words hold.
 use mathlib.Core.Bool.{Bool, cond, not, _&&_, _||_}
 use mathlib.Core.List.{List, [], _∷_, _++_}
-use Prim.Native.Nat.{ℕ, zero, suc, _/_, _%_, _^_}
+use Prim.Native.Nat.{ℕ, zero, suc, _+_, _*_, _/_, _%_, _^_}
 use lib.Dec.{ltb, leb, eqb}
 use Rattle.rulebook.specs.Names.{Ident}
 use Rattle.packing.specs.declared.Ident.{Ident as Words}
@@ -14,6 +14,21 @@ named x = record { head = x .head; middle = x .middle; tail = x .tail }
 unfoldable pub spelt : ℕ → ℕ → List ℕ
 spelt zero w = []
 spelt (suc n) w = cond (eqb w 0) [] (w % 256 ∷ spelt n (w / 256))
+
+-- so many bytes of a word, the lowest first, with the zeros after its last
+unfoldable pub row : ℕ → ℕ → List ℕ
+row zero w = []
+row (suc n) w = w % 256 ∷ row n (w / 256)
+
+-- the same, with 33 for each zero after its last
+unfoldable pub filled : ℕ → ℕ → List ℕ
+filled zero w = []
+filled (suc n) w = cond (eqb w 0) 33 (w % 256) ∷ filled n (w / 256)
+
+-- the highest bit of each byte, in its place in the word, once so much is added to the byte
+unfoldable pub marked : ℕ → List ℕ → ℕ
+marked k [] = 0
+marked k (b ∷ bs) = (b + k) / 128 * 128 + 256 * marked k bs
 
 -- the bytes of an identifier's three words
 unfoldable pub unpacked : Ident → List ℕ
