@@ -126,7 +126,7 @@ fn fill_short(w: u64) -> u64
     requires { ⌜ w < 256 ^ 4 ⌝ }
     ensures { λ r. ⌜ r ≡ word (filled 8 w) ⌝ }
 {
-    if w >= FOUR {
+    if w >= 0x100_0000 {
         return w + 0x2121_2121_0000_0000;
     }
     if w >= 0x1_0000 {
