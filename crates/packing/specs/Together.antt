@@ -87,7 +87,6 @@ same-top p q m n h k e =
     (omega arith, l)
 
 -- and bytes of which they say this are all an identifier's
-
 told-good : (bs : List ℕ) → All (λ b. b < 128) bs → marked 1 bs ≡ 0 → marked 95 bs ≡ times (length bs) 128 → marked 4 bs ≡ marked 3 bs → every good bs ≡ true
 unfolding every marked times
 told-good [] a m l o = refl
