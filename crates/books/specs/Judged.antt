@@ -4,18 +4,22 @@ use mathlib.Core.Option.{some}
 use mathlib.Core.List.{List}
 use Prim.Native.Nat.{ℕ}
 use Prim.Native.Char.{code}
+use native.Mathlib.Omega.{arith}
 use lib.Dec.{eqb}
 use Rattle.laws.specs.Tests.{some-of, second-fails}
 use Rattle.laws.specs.Tables.{look, look-self, look-key, puts, Steady}
+use Rattle.laws.specs.Numbered.{length-numbered}
 use Rattle.rulebook.specs.Names.{Mpid, Key}
 use Rattle.rulebook.specs.Lines.{Deal, News, Record}
 use Rattle.rulebook.specs.Kept.{Order, Group, Ledger, Books, by-mpid, by-id, by-key}
 use Rattle.rulebook.specs.Judging.{idle, deed, named, deal-ruling, news-ruling, judge}
 use Rattle.rulebook.specs.Day.{step}
 use Rattle.rulebook.specs.Cases.{number-not, kept-number, judge-cases, deal-cases, news-cases}
-use Rattle.books.specs.View.{view}
+use Rattle.books.specs.Layout.{groups-at, symbols-at, places-at}
+use Rattle.books.specs.View.{head-in, group-of, symbol-of, asked-of, books-in, rows-of, view}
 use Rattle.books.specs.Writing.{said, write}
-use Rattle.books.specs.Refining.{Counted, Linked, AptOrder, AptGroup, AptDeed, Apt, refines}
+use Rattle.books.specs.Rules.{Valid}
+use Rattle.books.specs.Refining.{Counted, counted, Linked, AptOrder, AptGroup, AptDeed, Apt, refines}
 
 idle-apt : (l : Ledger) → AptDeed l idle
 idle-apt l = record { order = tt; group = tt; symbol = tt }
@@ -61,6 +65,13 @@ judged-apt b x = judge-cases b (λ x v. Apt b (v .edit)) (record {
   on-next = λ n w h q. let a = news-apt (b .ledger) w in record { steady = a .0; deed = a .1 };
 }) x
 
--- THEOREM. What a record writes says the books after it
-pub judged : (m : List ℕ) → Counted m → (x : Record) → view (write (judge (view m) x .edit) m) ≡ step (view m) x
-judged m c x = refines m c (judge (view m) x .edit) (judged-apt (view m) x)
+-- a memory that meets the state rules has its counts within it
+pub valid-counted : (m : List ℕ) → Valid m → Counted m
+unfolding books-in
+valid-counted m v = let S = rows-of m in
+    counted m (v .long) (omega (arith, v .sound .ledger .few-groups, length-numbered (group-of S) (head-in S groups-at)))
+    (omega (arith, v .sound .ledger .few-symbols, length-numbered (symbol-of S) (head-in S symbols-at))) (omega (arith, v .sound .few-asked, length-numbered (asked-of S) (head-in S places-at)))
+
+-- THEOREM. Over a memory that meets the state rules, what a record writes says the books after it
+pub judged : (m : List ℕ) → Valid m → (x : Record) → view (write (judge (view m) x .edit) m) ≡ step (view m) x
+judged m v x = refines m (valid-counted m v) (judge (view m) x .edit) (judged-apt (view m) x)
