@@ -1,18 +1,22 @@
 -- What the searches of the lent words find.
 use mathlib.Core.Path.{_≡_, refl, sym, _∙_}
 use mathlib.Core.Bool.{Bool, true, false, cond}
+use mathlib.Core.Option.{some, none}
 use mathlib.Core.List.{List}
 use Prim.Native.Nat.{ℕ, _+_, _*_, _≤_, _<_}
 use native.Mathlib.Omega.{arith}
 use lib.Dec.{ltb, eqb}
 use lib.ListN.{getD}
-use borrow.Author.Tests.{lt-ltb, le-ltb}
-use Rattle.laws.specs.Numbered.{least, least-at, least-none}
+use borrow.Author.Tests.{ltb-true, ltb-false, lt-ltb, le-ltb}
+use Rattle.laws.specs.Tests.{on}
+use Rattle.laws.specs.Tables.{look}
+use Rattle.laws.specs.Numbered.{least, numbered, least-at, least-none, find-those}
 use Rattle.laws.specs.Rows.{Sheet}
 use Rattle.rulebook.specs.Names.{Mpid, Key, same-key}
+use Rattle.rulebook.specs.Kept.{by-request}
 use Rattle.packing.specs.Words.{named}
 use Rattle.books.specs.Layout.{groups, symbols, base-of, width-of, keys, groups-at, symbols-at, places-at}
-use Rattle.books.specs.View.{head-in, key-in, rows-of}
+use Rattle.books.specs.View.{head-in, key-in, asked-of, rows-of}
 use Rattle.books.specs.Writing.{group-index, symbol-index}
 use Rattle.store.specs.declared.Key.{Key as KeyWords}
 use Rattle.store.specs.declared.Found.{Found}
@@ -65,3 +69,14 @@ module _ (S : Sheet) (room : ℕ) (k : Key) (i : ℕ) (before : (j : ℕ) → j 
 
   pub found-full : i ≡ head-in S places-at → room ≤ i → Full ≡ found-place S room k
   found-full e le = sym (none-found e ∙ rw (le-ltb (head-in S places-at) room (omega arith)) refl)
+
+-- THEOREM. What the search answers is what the rulebook looks up by the request's key, and whether a place is free
+pub found-cases : (S : Sheet) (room : ℕ) (k : Key) (P : Found → Type 0) → let n = head-in S places-at in let asked = numbered (asked-of S) n in
+    ((i : ℕ) → i < n → look by-request k asked ≡ some (asked-of S i) → P (At i)) → (look by-request k asked ≡ none → n < room → P (Free n)) → (look by-request k asked ≡ none → room ≤ n → P Full) → P (found-place S room k)
+unfolding found-place place-index is-key look
+found-cases S room k P old free full = let n = head-in S places-at in
+    let r = least (λ i. same-key k (key-at S i)) n in
+    let e = find-those (λ a. same-key k (a .request .key)) (λ i. true) (asked-of S) n in
+    on (λ b. ltb r n ≡ b → P (cond b (At r) (cond (ltb n room) (Free n) Full))) (ltb r n)
+    (λ z q. old r (ltb-true r n q) (e ∙ rw q refl))
+    (λ z q. let miss = e ∙ rw q refl in on (λ b. ltb n room ≡ b → P (cond b (Free n) Full)) (ltb n room) (λ y h. free miss (ltb-true n room h)) (λ y h. full miss (ltb-false n room h)) refl) refl
