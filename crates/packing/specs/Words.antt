@@ -20,11 +20,6 @@ unfoldable pub row : ℕ → ℕ → List ℕ
 row zero w = []
 row (suc n) w = w % 256 ∷ row n (w / 256)
 
--- the same, with 33 for each zero after its last
-unfoldable pub filled : ℕ → ℕ → List ℕ
-filled zero w = []
-filled (suc n) w = cond (eqb w 0) 33 (w % 256) ∷ filled n (w / 256)
-
 -- the highest bit of each byte, in its place in the word, once so much is added to the byte
 unfoldable pub marked : ℕ → List ℕ → ℕ
 marked k [] = 0

@@ -1,12 +1,12 @@
 // Identifiers, targets and MPIDs packed into words, and whether words, letters and numbers have document 01's forms.
 ghost use mathlib.Core.Path.{_≡_};
-ghost use Prim.Native.Nat.{_+_, _^_, _≤_, _<_};
+ghost use Prim.Native.Nat.{_+_, _≤_, _<_};
 ghost use lib.ListN.{length, take, drop};
 ghost use Rattle.laws.specs.Tables.{All};
 ghost use Rattle.rulebook.specs.Names.{bytes, word, ident-of};
 ghost use Rattle.rulebook.specs.Lines.{from-to, letter, identifier, mpid};
 ghost use Rattle.fields.specs.Parts.{unnamed, said, takes, every, form};
-ghost use Rattle.packing.specs.Words.{named, spelt, row, filled, marked, unpacked, follows, tight};
+ghost use Rattle.packing.specs.Words.{named, spelt, row, marked, unpacked, follows, tight};
 ghost use Rattle.packing.specs.Fitting.{fits};
 use fields::MPID;
 use fields::Place;
@@ -104,10 +104,10 @@ fn marks(w: u64, more: u64) -> u64
     (w + more * ONES) & TOPS
 }
 
-// Whether the identifier's form takes each of a word's eight bytes: below 128, at most 126, at least 33, and not 124,
-// the one byte that comes to 128 by 4 more and not by 3.
-fn takes_eight(w: u64) -> bool
-    ensures { λ r. ⌜ r ≡ every (takes (identifier unnamed)) (row 8 w) ⌝ }
+// Whether the identifier's form takes each byte of a word, up to its last that is not 0; true of 0. Each byte is below 128;
+// at most 126; 0, or at least 33; not 0 where the next is not; and not 124, the one that comes to 128 by 4 more and not by 3.
+fn takes_text(w: u64) -> bool
+    ensures { λ r. ⌜ r ≡ every (takes (identifier unnamed)) (spelt 8 w) ⌝ }
 {
     if marks(w, 0) != 0 {
         return false;
@@ -115,56 +115,16 @@ fn takes_eight(w: u64) -> bool
     if marks(w, 1) != 0 {
         return false;
     }
-    if marks(w, 95) != TOPS {
+    let some = marks(w, 127);
+    if some != marks(w, 95) {
+        return false;
+    }
+    let next = some / 256;
+    let joined = next & some;
+    if joined != next {
         return false;
     }
     marks(w, 4) == marks(w, 3)
-}
-
-// A word of at most four bytes with 33 for each that it lacks of eight.
-fn fill_short(w: u64) -> u64
-    requires { ⌜ w < 256 ^ 4 ⌝ }
-    ensures { λ r. ⌜ r ≡ word (filled 8 w) ⌝ }
-{
-    if w >= 0x100_0000 {
-        return w + 0x2121_2121_0000_0000;
-    }
-    if w >= 0x1_0000 {
-        return w + 0x2121_2121_2100_0000;
-    }
-    if w >= 0x100 {
-        return w + 0x2121_2121_2121_0000;
-    }
-    if w > 0 {
-        return w + 0x2121_2121_2121_2100;
-    }
-    0x2121_2121_2121_2121
-}
-
-// A word with 33 for each byte that it lacks of eight.
-fn fill(w: u64) -> u64
-    ensures { λ r. ⌜ r ≡ word (filled 8 w) ⌝ }
-{
-    if w >= FULL {
-        return w;
-    }
-    if w < FIVE {
-        return fill_short(w);
-    }
-    if w >= 0x1_0000_0000_0000 {
-        return w + 0x2100_0000_0000_0000;
-    }
-    if w >= 0x100_0000_0000 {
-        return w + 0x2121_0000_0000_0000;
-    }
-    w + 0x2121_2100_0000_0000
-}
-
-// Whether the identifier's form takes each byte of a word, up to its last that is not 0; true of 0.
-fn takes_text(w: u64) -> bool
-    ensures { λ r. ⌜ r ≡ every (takes (identifier unnamed)) (spelt 8 w) ⌝ }
-{
-    takes_eight(fill(w))
 }
 
 // Whether the identifier's form takes each byte of the three words.
