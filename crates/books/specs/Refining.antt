@@ -9,7 +9,7 @@ use native.Mathlib.Omega.{arith}
 use lib.ListN.{length, length-append}
 use lib.Dec.{eqb}
 use borrow.Author.Tests.{eq-eqb, ne-eqb}
-use Rattle.laws.specs.Tables.{All, Shift, stay, adds, puts, shifted, look, look-key, put, length-put, Steady}
+use Rattle.laws.specs.Tables.{All, all-both, Shift, stay, adds, puts, shifted, look, look-key, put, length-put, Steady}
 use Rattle.laws.specs.Numbered.{those, numbered, those-same, those-more, length-numbered, put-those, found-those}
 use Rattle.laws.specs.Rows.{Row, patch, Sheet, row-after, enter, enter-row, enter-append, row-append, Away, row-away, Shape, sheet, Fit, Shows, shown, length-run}
 use Rattle.rulebook.specs.Names.{Mpid, Key}
@@ -494,10 +494,6 @@ few-after b (remembered x d) a f = record { groups = few-groups-after (b .ledger
 pub few-of : (m : List ℕ) → Counted m → Few (view m)
 unfolding books-in
 few-of m c = record { groups = rw (counts (room-of m) (rows-of m) .0) (c .few-groups); symbols = rw (counts (room-of m) (rows-of m) .1) (c .few-symbols); places = rw (counts (room-of m) (rows-of m) .2) (c .few-places) }
-
-all-both : {A : Type 0} (P : A → Type 0) (xs ys : List A) → All P xs → All P ys → All P (xs ++ ys)
-all-both P [] ys a b = b
-all-both P (x ∷ xs) ys a b = (a .0, all-both P xs ys (a .1) b)
 
 -- every store of an edit keeps to its row
 module _ (m : List ℕ) (c : Counted m) where

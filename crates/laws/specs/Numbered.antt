@@ -1,6 +1,6 @@
 -- Numbered lists: f of the numbers below n at which a test holds, in their order; the least such number; and a sum over them.
 use mathlib.Core.Path.{_≡_, refl, sym, ap, ap₂, _∙_, subst}
-use mathlib.Core.Bool.{Bool, true, false, not, _&&_, cond, false≢true, and-eq-true-iff}
+use mathlib.Core.Bool.{Bool, true, false, not, _&&_, cond, false≢true, and-eq-true-iff, Bool·not-not}
 use mathlib.Core.Option.{Option, none, some, Option·none-ne-some, Option·some-injective}
 use mathlib.Core.List.{List, [], _∷_, _++_, map}
 use Prim.Native.Nat.{ℕ, zero, suc, _+_, _≤_, _<_}
@@ -74,10 +74,6 @@ every-each t zero e j lt = absurd (omega arith)
 every-each t (suc n) e j lt = let w = and-eq-true-iff (every t n) (t n) .0 e in
     elim (decLt j n) [ yes p ↦ every-each t n (w .0) j p | no np ↦ let q : j ≡ n = omega arith in ap t q ∙ w .1 ]
 
-not-not : (b : Bool) → not (not b) ≡ b
-not-not true = refl
-not-not false = refl
-
 pub every-no : (t : ℕ → Bool) (n j : ℕ) → j < n → t j ≡ false → every t n ≡ false
 every-no t n j lt e = on (λ b. every t n ≡ b → b ≡ false) (every t n) (λ z h. absurd (false≢true (sym e ∙ every-each t n h j lt))) (λ z h. refl) refl
 
@@ -91,7 +87,7 @@ apart-yes t n h = every-yes _ n (λ j lt. every-yes _ j (λ i l. ap not (h i j l
 
 pub apart-each : (t : ℕ → ℕ → Bool) (n : ℕ) → apart t n ≡ true → (i j : ℕ) → i < j → j < n → t i j ≡ false
 unfolding apart
-apart-each t n e i j l lt = sym (not-not (t i j)) ∙ ap not (every-each (λ i. not (t i j)) j (every-each (λ j. every (λ i. not (t i j)) j) n e j lt) i l)
+apart-each t n e i j l lt = sym (Bool·not-not (t i j)) ∙ ap not (every-each (λ i. not (t i j)) j (every-each (λ j. every (λ i. not (t i j)) j) n e j lt) i l)
 
 -- ── a sum over the numbers below n ──
 unfoldable pub total : (ℕ → ℕ) → ℕ → ℕ

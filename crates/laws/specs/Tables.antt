@@ -31,9 +31,12 @@ module _ {A : Type 0} where
   all-map P Q f [] a = tt
   all-map P Q f (x ∷ xs) a = (f x (a .0), all-map P Q f xs (a .1))
 
+  pub all-both : (P : A → Type 0) (xs ys : List A) → All P xs → All P ys → All P (xs ++ ys)
+  all-both P [] ys a b = b
+  all-both P (x ∷ xs) ys a b = (a .0, all-both P xs ys (a .1) b)
+
   pub all-append : (P : A → Type 0) (xs : List A) (y : A) → All P xs → P y → All P (xs ++ (y ∷ []))
-  all-append P [] y a p = (p, tt)
-  all-append P (x ∷ xs) y a p = (a .0, all-append P xs y (a .1) p)
+  all-append P xs y a p = all-both P xs (y ∷ []) a (p, tt)
 
   pub all-zip : (P Q R : A → Type 0) → ((x : A) → P x → Q x → R x) → (xs : List A) → All P xs → All Q xs → All R xs
   all-zip P Q R f [] a b = tt

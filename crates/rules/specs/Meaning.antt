@@ -9,7 +9,7 @@ use Prim.Native.Char.{code}
 use native.Mathlib.Omega.{arith}
 use lib.ListN.{length}
 use lib.Dec.{leb, ltb, eqb}
-use borrow.Author.Tests.{leb-true, le-leb, eqb-true, eq-eqb}
+use borrow.Author.Tests.{not-false, leb-true, le-leb, eqb-true, eq-eqb}
 use Rattle.laws.specs.Tests.{on, is-none, both, two}
 use Rattle.laws.specs.Tables.{find, All, _also_, sum, Has, Distinct, look}
 use Rattle.laws.specs.Checks.{all-hold, rules-read, rules-met}
@@ -68,10 +68,6 @@ held room S h = rules-met _ (h .few-groups also h .few-symbols also h .few-place
 -- ── a search of the rows, and whether a thing is listed ──
 has-index : {A : Type 0} (u : A → Bool) (f : ℕ → A) (n : ℕ) → is-none (find u (numbered f n)) ≡ not (ltb (least (λ j. u (f j)) n) n)
 has-index u f n = ap is-none (find-those u (λ i. true) f n) ∙ on (λ b. is-none (cond b (some (f (least (λ j. u (f j)) n))) none) ≡ not b) (ltb (least (λ j. u (f j)) n) n) (λ e. refl) (λ e. refl)
-
-not-false : (b : Bool) → not b ≡ false → b ≡ true
-not-false true e = refl
-not-false false e = absurd (false≢true (sym e))
 
 -- ── marks and totals ──
 -- a rule of what may be unused

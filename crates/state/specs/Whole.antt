@@ -1,6 +1,6 @@
 -- The test of the whole memory as the code makes it, and that it is the test of the state rules.
 use mathlib.Core.Path.{_≡_, refl, sym, _∙_, subst, fun-ext}
-use mathlib.Core.Bool.{Bool, true, false, _&&_, _||_, cond, false≢true}
+use mathlib.Core.Bool.{and-assoc, Bool, true, false, _&&_, _||_, cond, false≢true}
 use mathlib.Core.Logic.{_⊎_, inl, inr, ⊎-elim}
 use mathlib.Core.List.{List, [], _∷_}
 use Prim.Native.Nat.{ℕ, _+_, _≤_, _<_}
@@ -66,10 +66,7 @@ unfolding same-row every
 ids-same m = refl
 
 four : (a b c d : Bool) → (((a && b) && c) && d) ≡ (a && (b && (c && d)))
-four true true true d = refl
-four true true false d = refl
-four true false c d = refl
-four false b c d = refl
+four a b c d = and-assoc (a && b) c d ∙ and-assoc a b (c && d)
 
 pub places-same : (m : List ℕ) → same-row m (base-of keys) (width-of keys) (width-of keys) ≡ same-place (rows-of m)
 unfolding same-row every

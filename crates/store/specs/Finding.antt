@@ -1,6 +1,6 @@
 -- What the searches of the lent words find.
 use mathlib.Core.Path.{_≡_, refl, sym, _∙_}
-use mathlib.Core.Bool.{Bool, true, false, cond}
+use mathlib.Core.Bool.{true, false, cond}
 use mathlib.Core.Option.{some, none}
 use mathlib.Core.List.{List}
 use Prim.Native.Nat.{ℕ, _+_, _*_, _≤_, _<_}
@@ -44,25 +44,22 @@ first-symbol m w = refl
 abbrev pub key-at : Sheet → ℕ → Key
 key-at S i = key-in (S keys i)
 
-unfoldable pub is-key : Key → Key → Bool
-is-key a b = same-key a b
-
 -- "A request whose MPID and identifier are already in the table": the first such place; else the first free one, where there is room
 unfoldable pub place-index : Sheet → Key → ℕ
-place-index S k = least (λ i. is-key k (key-at S i)) (head-in S places-at)
+place-index S k = least (λ i. same-key k (key-at S i)) (head-in S places-at)
 
 unfoldable pub found-place : Sheet → ℕ → Key → Found
 found-place S room k = let n = head-in S places-at in cond (ltb (place-index S k) n) (At (place-index S k)) (cond (ltb n room) (Free n) Full)
 
 -- what the search has seen when it ends, and what it then answers
-module _ (S : Sheet) (room : ℕ) (k : Key) (i : ℕ) (before : (j : ℕ) → j < i → is-key k (key-at S j) ≡ false) where
-  pub found-at : i < head-in S places-at → is-key k (key-at S i) ≡ true → At i ≡ found-place S room k
+module _ (S : Sheet) (room : ℕ) (k : Key) (i : ℕ) (before : (j : ℕ) → j < i → same-key k (key-at S j) ≡ false) where
+  pub found-at : i < head-in S places-at → same-key k (key-at S i) ≡ true → At i ≡ found-place S room k
   unfolding found-place place-index
-  found-at lt e = let q = least-at (λ i. is-key k (key-at S i)) (head-in S places-at) i lt before e in sym (rw (q, lt-ltb i (head-in S places-at) lt) refl)
+  found-at lt e = let q = least-at (λ i. same-key k (key-at S i)) (head-in S places-at) i lt before e in sym (rw (q, lt-ltb i (head-in S places-at) lt) refl)
 
   none-found : i ≡ head-in S places-at → found-place S room k ≡ cond (ltb (head-in S places-at) room) (Free (head-in S places-at)) Full
   unfolding found-place place-index
-  none-found e = let q = least-none (λ i. is-key k (key-at S i)) (head-in S places-at) (λ j lt. before j (omega arith)) in rw (q, le-ltb (head-in S places-at) (head-in S places-at) (omega arith)) refl
+  none-found e = let q = least-none (λ i. same-key k (key-at S i)) (head-in S places-at) (λ j lt. before j (omega arith)) in rw (q, le-ltb (head-in S places-at) (head-in S places-at) (omega arith)) refl
 
   pub found-free : i ≡ head-in S places-at → i < room → Free i ≡ found-place S room k
   found-free e lt = rw e (sym (none-found e ∙ rw (lt-ltb (head-in S places-at) room (omega arith)) refl))
@@ -73,7 +70,7 @@ module _ (S : Sheet) (room : ℕ) (k : Key) (i : ℕ) (before : (j : ℕ) → j 
 -- THEOREM. What the search answers is what the rulebook looks up by the request's key, and whether a place is free
 pub found-cases : (S : Sheet) (room : ℕ) (k : Key) (P : Found → Type 0) → let n = head-in S places-at in let asked = numbered (asked-of S) n in
     ((i : ℕ) → i < n → look by-request k asked ≡ some (asked-of S i) → P (At i)) → (look by-request k asked ≡ none → n < room → P (Free n)) → (look by-request k asked ≡ none → room ≤ n → P Full) → P (found-place S room k)
-unfolding found-place place-index is-key look
+unfolding found-place place-index look
 found-cases S room k P old free full = let n = head-in S places-at in
     let r = least (λ i. same-key k (key-at S i)) n in
     let e = find-those (λ a. same-key k (a .request .key)) (λ i. true) (asked-of S) n in

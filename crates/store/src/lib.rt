@@ -3,11 +3,12 @@ ghost use mathlib.Core.Path.{_≡_};
 ghost use Prim.Native.Nat.{_+_, _≤_, _<_};
 ghost use lib.ListN.{length};
 ghost use lib.Seq.{sets};
+ghost use Rattle.rulebook.specs.Names.{same-key};
 ghost use Rattle.books.specs.Layout.{room-for, room-of, HasKeys};
 ghost use Rattle.books.specs.View.{rows-of};
 ghost use Rattle.books.specs.Refining.{Counted};
 ghost use Rattle.chains.specs.Words.{HasRows};
-ghost use Rattle.store.specs.Finding.{first-row, named-by, key-at, is-key, found-place};
+ghost use Rattle.store.specs.Finding.{first-row, named-by, key-at, found-place};
 ghost use Rattle.store.specs.Making.{made-number, made, made-words, totals-of};
 use packing::Ident;
 
@@ -88,7 +89,7 @@ pub fn key_at(mem: &[u64], i: usize) -> Key
 
 // Whether two keys are the same.
 fn same_key(a: Key, b: Key) -> bool
-    ensures { λ r. ⌜ r ≡ is-key (named-by a) (named-by b) ⌝ }
+    ensures { λ r. ⌜ r ≡ same-key (named-by a) (named-by b) ⌝ }
 {
     if a.owner != b.owner {
         return false;

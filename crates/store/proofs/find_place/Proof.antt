@@ -7,11 +7,12 @@ use Prim.Native.Nat.{ℕ, _≤_, _<_, _-_}
 use native.Mathlib.Omega.{arith}
 use borrow.Author.Count.{below-more}
 use Rattle.books.specs.View.{rows-of}
-use Rattle.store.specs.Finding.{named-by, key-at, is-key, found-at, found-free, found-full}
+use Rattle.rulebook.specs.Names.{same-key}
+use Rattle.store.specs.Finding.{named-by, key-at, found-at, found-free, found-full}
 use Rattle.store.proofs.find_place.Tie as tie
 
 abbrev Inv-loop : tie.InvT-loop
-Inv-loop mem key n places place₀ place = (place ≤ n) × ((k : ℕ) → k < place → is-key (named-by key) (key-at (rows-of mem) k) ≡ false)
+Inv-loop mem key n places place₀ place = (place ≤ n) × ((k : ℕ) → k < place → same-key (named-by key) (key-at (rows-of mem) k) ≡ false)
 
 abbrev μ-loop : tie.MeasureT-loop
 μ-loop mem key n places place₀ place = n - place
@@ -38,7 +39,7 @@ loop-less : tie.Need-loop-less Inv-loop μ-loop
 loop-less c = search needs
 
 loop-again : tie.Need-loop-again Inv-loop μ-loop
-loop-again c = (search needs, below-more _ _ (c .before .before .before .before .loop .inv .1) (sym (ap (is-key (named-by (c .before .before .before .before .before .before .before .before .args .key))) (c .before .before .key-at .ensures)) ∙ sym (c .before .same-key .ensures) ∙ c .if3 .left))
+loop-again c = (search needs, below-more _ _ (c .before .before .before .before .loop .inv .1) (sym (ap (same-key (named-by (c .before .before .before .before .before .before .before .before .args .key))) (c .before .before .key-at .ensures)) ∙ sym (c .before .same-key .ensures) ∙ c .if3 .left))
 
 returns : tie.Need-returns Inv-loop μ-loop
 returns c = found-free _ _ _ _ (c .before .before .loop .inv .1) (omega arith) (omega (arith, c .before .before .before .room .ensures, c .if2 .taken))
@@ -47,7 +48,7 @@ returns-2 : tie.Need-returns-2 Inv-loop μ-loop
 returns-2 c = found-full _ _ _ _ (c .before .before .loop .inv .1) (omega arith) (omega (arith, c .before .before .before .room .ensures, c .if2 .left))
 
 returns-3 : tie.Need-returns-3 Inv-loop μ-loop
-returns-3 c = found-at _ _ _ _ (c .before .before .before .before .loop .inv .1) (c .before .before .before .if1 .left) (sym (ap (is-key (named-by (c .before .before .before .before .before .before .before .before .args .key))) (c .before .before .key-at .ensures)) ∙ sym (c .before .same-key .ensures) ∙ c .if3 .taken)
+returns-3 c = found-at _ _ _ _ (c .before .before .before .before .loop .inv .1) (c .before .before .before .if1 .left) (sym (ap (same-key (named-by (c .before .before .before .before .before .before .before .before .args .key))) (c .before .before .key-at .ensures)) ∙ sym (c .before .same-key .ensures) ∙ c .if3 .taken)
 
 pub find-place-spec : {M : Type 1} → statement M
 find-place-spec =
