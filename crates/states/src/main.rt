@@ -1,5 +1,5 @@
 // Tries the state rules on memories that are built by hand, good ones and ones that break a rule, and
-// compares each answer with what an independent reading of document 01 says of the same memory. Then
+// compares each answer with what a separate reading of document 01 says of the same memory. Then
 // has fresh states made, in memories that are too short and in ones that are not.
 //
 // The file states.txt has a line to a step, its parts with one space between, its numbers decimal:
