@@ -1,7 +1,7 @@
 -- The lent words: where each thing stands. docs/STATE.md has the map, and says why words.
 -- A field is a word. The regions stand one after the other; the last three have a row for each place of the table.
 use mathlib.Core.List.{List, [], _∷_}
-use Prim.Native.Nat.{ℕ, _-_, _/_, _≤_, min}
+use Prim.Native.Nat.{ℕ, _+_, _*_, _-_, _/_, _≤_, min}
 use lib.ListN.{length}
 use Rattle.laws.specs.Rows.{Shape, region, after, extent}
 
@@ -56,6 +56,13 @@ base-of q = region (layout 0) q .base
 
 abbrev pub width-of : ℕ → ℕ
 width-of q = region (layout 0) q .width
+
+-- where the request of a place begins, and where its order does
+abbrev pub request-start : List ℕ → ℕ → ℕ
+request-start m i = region (layout (room-of m)) requests .base + i * width-of requests
+
+abbrev pub order-start : List ℕ → ℕ → ℕ
+order-start m i = region (layout (room-of m)) orders .base + i * width-of orders
 
 -- the keys of the first n places are there
 pub record HasKeys (m : List ℕ) (n : ℕ) : Type 0 where

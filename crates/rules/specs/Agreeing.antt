@@ -24,7 +24,7 @@ use Rattle.fields.specs.Series.{side-of}
 use Rattle.fields.specs.Values.{says-side}
 use Rattle.packing.specs.Fitting.{fits}
 use Rattle.packing.specs.Exactly.{fits-exactly, letter-exactly, formed-exactly, mpid-exactly, identifier-exactly}
-use Rattle.books.specs.Layout.{layout, room-of, width-of, limit-cells, mark-cells, total-cells, target-cells, not-of-change, not-of-cancel, not-of-block, groups, symbols, keys, requests, orders, opened-at, gross-trade-at, net-trade-at, gross-open-at, net-open-at, gross-both-at, net-both-at, max-size-at, short-sales-at, blocked-at, traded-buys-at, traded-sells-at, open-buys-at, open-sells-at, id-at, bid-at, offer-at, kind-at, number-at, target-at, target-middle-at, target-tail-at, symbol-at, side-at, size-at, price-at, order-price-at, order-size-at, done-at, cancel-asked-at}
+use Rattle.books.specs.Layout.{layout, room-of, request-start, order-start, width-of, limit-cells, mark-cells, total-cells, target-cells, not-of-change, not-of-cancel, not-of-block, groups, symbols, keys, requests, orders, opened-at, gross-trade-at, net-trade-at, gross-open-at, net-open-at, gross-both-at, net-both-at, max-size-at, short-sales-at, blocked-at, traded-buys-at, traded-sells-at, open-buys-at, open-sells-at, id-at, bid-at, offer-at, kind-at, number-at, target-at, target-middle-at, target-tail-at, symbol-at, side-at, size-at, price-at, order-price-at, order-size-at, done-at, cancel-asked-at}
 use Rattle.books.specs.View.{flag, mpid-in, group-in, tally-in, key-in, target-in, deal-in, asked-in, opens, head-in, rows-of}
 use Rattle.books.specs.Writing.{request-words}
 use Rattle.books.specs.Rules.{words-in}
@@ -142,12 +142,6 @@ symbol-met m i e =
     rules-met _ (ranged 1 4_294_967_295 (word-at m b id-at) (f .1 .0 .0) (f .1 .0 .1) also run-within m b 999_999_999_999 bid-at 2 (f .1 .1 .0 .1 also f .1 .1 .1 .0 .1 also tt) also tt)
 
 -- ── requests ──
-abbrev pub request-start : List ℕ → ℕ → ℕ
-request-start m i = region (layout (room-of m)) requests .base + i * width-of requests
-
-abbrev pub order-start : List ℕ → ℕ → ℕ
-order-start m i = region (layout (room-of m)) orders .base + i * width-of orders
-
 side-fits : (x : Side) → Fits (side x)
 side-fits buy = refl
 side-fits sell = refl

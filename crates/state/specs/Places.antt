@@ -10,13 +10,12 @@ use Rattle.laws.specs.Tests.{eqb-exact, exact-sym}
 use Rattle.laws.specs.Numbered.{every, apart, apart-each, least-at, least-is}
 use Rattle.laws.specs.Checks.{all-hold}
 use Rattle.rulebook.specs.Names.{same-mpid}
-use Rattle.books.specs.Layout.{orders, width-of, groups, symbols, requests, id-at, symbol-at, symbols-at}
+use Rattle.books.specs.Layout.{order-start, request-start, orders, width-of, groups, symbols, requests, id-at, symbol-at, symbols-at}
 use Rattle.books.specs.View.{mpid-in, head-in, rows-of, opens-of, asked-of}
 use Rattle.books.specs.Writing.{group-index, symbol-index}
 use Rattle.chains.specs.Words.{same-row}
 use Rattle.store.specs.Finding.{first-row}
 use Rattle.rules.specs.Passing.{words-within, request-ok, figures-ok}
-use Rattle.rules.specs.Agreeing.{request-start, order-start}
 
 -- two groups with one MPID, two symbols with one ID
 abbrev pub same-desk : List ℕ → ℕ → ℕ → Bool

@@ -20,13 +20,12 @@ use Rattle.rulebook.specs.Names.{same-mpid}
 use Rattle.rulebook.specs.Lines.{ceiling, buy, sell, short, exempt, is-buy}
 use Rattle.rulebook.specs.Cases.{in-range}
 use Rattle.rulebook.specs.Kept.{open-value, is-of, worth}
-use Rattle.books.specs.Layout.{orders, width-of, groups, groups-at, places-at, mpid-at, open-buys-at, open-sells-at, order-price-at, order-size-at, done-at}
+use Rattle.books.specs.Layout.{order-start, orders, width-of, groups, groups-at, places-at, mpid-at, open-buys-at, open-sells-at, order-price-at, order-size-at, done-at}
 use Rattle.books.specs.View.{mpid-in, head-in, rows-of, opens-of, order-of, orders-in}
 use Rattle.books.specs.Writing.{group-index}
 use Rattle.books.specs.Refining.{Counted}
 use Rattle.fields.specs.Series.{side-of}
 use Rattle.rules.specs.Passing.{word-at, figures-ok}
-use Rattle.rules.specs.Agreeing.{order-start}
 use Rattle.rules.specs.Testing.{sums-are}
 use Rattle.state.specs.Places.{same-desk, figures-right, place-ok, desk-at}
 

@@ -14,7 +14,7 @@ use Rattle.laws.specs.Tables.{_also_}
 use Rattle.laws.specs.Numbered.{every, every-each, every-yes, every-no, apart, least, least-is}
 use Rattle.rulebook.specs.Names.{same-mpid, mpid-exact}
 use Rattle.rulebook.specs.Lines.{ceiling, Fits, mpid}
-use Rattle.books.specs.Layout.{symbols, base-of, width-of, total-cells, orders, least-words, room-of, groups, keys, requests, owner-at, name-at, name-middle-at, name-tail-at, symbol-at, opened-at, groups-at, symbols-at, places-at, traded-buys-at, open-buys-at, open-sells-at}
+use Rattle.books.specs.Layout.{order-start, symbols, base-of, width-of, total-cells, orders, least-words, room-of, groups, keys, requests, owner-at, name-at, name-middle-at, name-tail-at, symbol-at, opened-at, groups-at, symbols-at, places-at, traded-buys-at, open-buys-at, open-sells-at}
 use Rattle.books.specs.View.{flag, mpid-in, head-in, asked-of, opens-of, rows-of, same-place}
 use Rattle.books.specs.Writing.{group-index, symbol-index}
 use Rattle.packing.specs.Exactly.{mpid-exactly}
@@ -23,7 +23,7 @@ use Rattle.chains.specs.Words.{same-row}
 use Rattle.rules.specs.Testing.{head-fits, request-fits, desk-listed, symbol-listed, sums-are, state-ok}
 use Rattle.rules.specs.Meaning.{holding, held}
 use Rattle.rules.specs.Passing.{words-within, word-at, word-within, group-start, totals-ok, head-ok, group-ok, symbol-ok, figures-ok}
-use Rattle.rules.specs.Agreeing.{early-is, order-start, OrderRules, GroupRules, group-read, group-met, symbol-read, symbol-met, request-read, request-met, order-read, order-met, unused-read, unused-met}
+use Rattle.rules.specs.Agreeing.{early-is, OrderRules, GroupRules, group-read, group-met, symbol-read, symbol-met, request-read, request-met, order-read, order-met, unused-read, unused-met}
 use Rattle.state.specs.Places.{same-desk, same-id, figures-right, place-ok, desk-at}
 use Rattle.state.specs.Summing.{Sums, Over, over-later, sums-broken}
 

@@ -12,7 +12,6 @@ ghost use Rattle.chains.specs.Words.{HasRows, same-row};
 ghost use Rattle.store.specs.Finding.{first-row};
 ghost use Rattle.rules.specs.Testing.{state-ok, sums-are};
 ghost use Rattle.rules.specs.Passing.{group-ok, symbol-ok};
-ghost use Rattle.rules.specs.Agreeing.{request-start, order-start};
 ghost use Rattle.rulebook.specs.Lines.{is-buy};
 ghost use Rattle.fields.specs.Series.{side-of};
 ghost use Rattle.state.specs.Summing.{Sums, Added, Due, Priced, value-at, slot};
@@ -108,24 +107,6 @@ fn find_hinted(
     k
 }
 
-// Where the request of a place begins, and where its order does.
-fn request_at(mem: &[u64], i: usize) -> usize
-    requires { ⌜ Counted (now mem) ⌝ }
-    requires { ⌜ i < room-of (now mem) ⌝ }
-    ensures { λ r. ⌜ r ≡ request-start (now (mem .entry)) i ⌝ }
-{
-    books::KEYS + store::room(mem.len()) * books::KEY_WORDS + i * books::REQUEST_WORDS
-}
-
-fn order_at(mem: &[u64], i: usize) -> usize
-    requires { ⌜ Counted (now mem) ⌝ }
-    requires { ⌜ i < room-of (now mem) ⌝ }
-    ensures { λ r. ⌜ r ≡ order-start (now (mem .entry)) i ⌝ }
-{
-    let places = store::room(mem.len());
-    books::KEYS + places * books::KEY_WORDS + places * books::REQUEST_WORDS + i * books::ORDER_WORDS
-}
-
 // Whether a place holds an order with figures in range and a listed symbol, or none and figures of 0.
 fn order_ok(mem: &[u64], ids: &mut [u16], i: usize) -> bool
     requires { ⌜ Counted (now mem) ⌝ }
@@ -134,8 +115,8 @@ fn order_ok(mem: &[u64], ids: &mut [u16], i: usize) -> bool
     requires { ⌜ i < room-of (now mem) ⌝ }
     ensures { λ r. ⌜ r ≡ figures-right (now (mem .entry)) i ⌝ }
 {
-    let b = request_at(mem, i);
-    let o = order_at(mem, i);
+    let b = store::request_at(mem, i);
+    let o = store::order_at(mem, i);
     if !rules::opens(mem, b) {
         return rules::no_figures(mem, o);
     }
@@ -155,7 +136,7 @@ fn place_ok(mem: &[u64], ids: &mut [u16], i: usize) -> bool
     requires { ⌜ i < room-of (now mem) ⌝ }
     ensures { λ r. ⌜ r ≡ place-ok (now (mem .entry)) i ⌝ }
 {
-    if !rules::request_ok(mem, i, request_at(mem, i)) {
+    if !rules::request_ok(mem, i, store::request_at(mem, i)) {
         return false;
     }
     order_ok(mem, ids, i)
@@ -201,11 +182,11 @@ fn add_value(mem: &[u64], i: usize, k: usize, sums: &mut [u64]) -> bool
     requires { ⌜ Sums (rows-of (now mem)) (now sums) i ⌝ }
     ensures { λ r. ⌜ Added (rows-of (now (mem .entry))) (now (sums .exit)) (i + 1) r ⌝ }
 {
-    let b = request_at(mem, i);
+    let b = store::request_at(mem, i);
     if !rules::opens(mem, b) {
         return true;
     }
-    let v = value_of(mem, order_at(mem, i));
+    let v = value_of(mem, store::order_at(mem, i));
     let s = slot_of(k, mem[b + books::SIDE]);
     let t = sums[s] + v;
     if t > CEILING {

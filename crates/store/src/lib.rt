@@ -4,7 +4,7 @@ ghost use Prim.Native.Nat.{_+_, _≤_, _<_};
 ghost use lib.ListN.{length};
 ghost use lib.Seq.{sets};
 ghost use Rattle.rulebook.specs.Names.{same-key};
-ghost use Rattle.books.specs.Layout.{room-for, room-of, HasKeys};
+ghost use Rattle.books.specs.Layout.{room-for, room-of, request-start, order-start, HasKeys};
 ghost use Rattle.books.specs.View.{rows-of};
 ghost use Rattle.books.specs.Refining.{Counted};
 ghost use Rattle.chains.specs.Words.{HasRows};
@@ -40,6 +40,24 @@ pub fn room(words: usize) -> usize
         return books::MOST_PLACES;
     }
     places
+}
+
+// Where the request of a place begins, and where its order does.
+pub fn request_at(mem: &[u64], i: usize) -> usize
+    requires { ⌜ Counted (now mem) ⌝ }
+    requires { ⌜ i < room-of (now mem) ⌝ }
+    ensures { λ r. ⌜ r ≡ request-start (now (mem .entry)) i ⌝ }
+{
+    books::KEYS + room(mem.len()) * books::KEY_WORDS + i * books::REQUEST_WORDS
+}
+
+pub fn order_at(mem: &[u64], i: usize) -> usize
+    requires { ⌜ Counted (now mem) ⌝ }
+    requires { ⌜ i < room-of (now mem) ⌝ }
+    ensures { λ r. ⌜ r ≡ order-start (now (mem .entry)) i ⌝ }
+{
+    let places = room(mem.len());
+    books::KEYS + places * books::KEY_WORDS + places * books::REQUEST_WORDS + i * books::ORDER_WORDS
 }
 
 // The words stored from a place on, and nothing else.

@@ -1,0 +1,2 @@
+pub mod InRows
+pub mod Storing
