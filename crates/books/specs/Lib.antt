@@ -4,3 +4,4 @@ pub mod Writing
 pub mod Refining
 pub mod Rules
 pub mod Judged
+pub mod Kept

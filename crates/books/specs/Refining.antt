@@ -448,7 +448,7 @@ pub counted : (m : List ℕ) → least-words ≤ length m → head-in (rows-of m
 counted m l g s p = record { long = l; few-groups = g; few-symbols = s; few-places = p; whole = room-fits (length m) l; most = room-most (length m) }
 
 -- as many are listed as are counted
-counts : (room : ℕ) (S : Sheet) → (length (books-in room S .ledger .groups) ≡ head-in S groups-at) × (length (books-in room S .ledger .symbols) ≡ head-in S symbols-at) × (length (books-in room S .asked) ≡ head-in S places-at)
+pub counts : (room : ℕ) (S : Sheet) → (length (books-in room S .ledger .groups) ≡ head-in S groups-at) × (length (books-in room S .ledger .symbols) ≡ head-in S symbols-at) × (length (books-in room S .asked) ≡ head-in S places-at)
 unfolding books-in
 counts room S = (length-numbered (group-of S) (head-in S groups-at), length-numbered (symbol-of S) (head-in S symbols-at), length-numbered (asked-of S) (head-in S places-at))
 

@@ -49,7 +49,7 @@ Owned m (adds o) = m ≡ o .ticket .key .owner .mpid
 Owned m (puts o) = m ≡ o .ticket .key .owner .mpid
 
 -- another desk's sums do not move
-other-sum : (m d : Mpid) (b : Bool) (os : List Order) (s : Shift Order) → Standing os s → Owned d s → same-mpid m d ≡ false → sum (worth m b) (shifted by-key s os) ≡ sum (worth m b) os
+pub other-sum : (m d : Mpid) (b : Bool) (os : List Order) (s : Shift Order) → Standing os s → Owned d s → same-mpid m d ≡ false → sum (worth m b) (shifted by-key s os) ≡ sum (worth m b) os
 other-sum m d b os stay t w n = refl
 other-sum m d b os (adds o) t w n = omega (arith, sum-append (worth m b) os (o ∷ []), worth-other m b o (rw (← w) n))
 other-sum m d b os (puts o) t w n =
@@ -229,7 +229,7 @@ deal-kept l g k d = deal-cases l g k (λ d u. (eqb (u .number) 0 || is-kept (u .
 }) d
 
 -- before O there is no order
-no-orders : (b : Books) → Sound b → b .opened ≡ false → b .ledger .orders ≡ []
+pub no-orders : (b : Books) → Sound b → b .opened ≡ false → b .ledger .orders ≡ []
 no-orders b s h = map-eq-nil-iff (λ (o : Order). o .ticket) .0 (s .orders-asked ∙ ap tickets-in (s .before-open h .0))
 
 -- THEOREM. A fresh state meets the state rules
