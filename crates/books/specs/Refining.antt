@@ -9,11 +9,12 @@ use native.Mathlib.Omega.{arith}
 use lib.ListN.{length, length-append}
 use lib.Dec.{eqb}
 use borrow.Author.Tests.{eq-eqb, ne-eqb}
+use Rattle.laws.specs.Tests.{on}
 use Rattle.laws.specs.Tables.{All, all-both, Shift, stay, adds, puts, shifted, look, look-key, put, length-put, Steady}
 use Rattle.laws.specs.Numbered.{those, numbered, those-same, those-more, length-numbered, put-those, found-those}
 use Rattle.laws.specs.Rows.{Row, patch, Sheet, row-after, enter, enter-row, enter-append, row-append, Away, row-away, Shape, sheet, Fit, Shows, shown, length-run}
 use Rattle.rulebook.specs.Names.{Mpid, Key}
-use Rattle.rulebook.specs.Lines.{Side, buy, sell, short, exempt, side-letter, Deal, new, change, cancel, block, unblock, Request}
+use Rattle.rulebook.specs.Lines.{Side, buy, sell, short, exempt, side-letter, is-buy, Deal, new, change, cancel, block, unblock, Request}
 use Rattle.rulebook.specs.Kept.{Order, Group, Symbol, Asked, Ledger, Books, by-mpid, by-id, by-key}
 use Rattle.rulebook.specs.Judging.{Deed, Edit, nothing, opened, listed, remembered, taken, enact, apply}
 use Rattle.fields.specs.Series.{side-of}
@@ -87,6 +88,10 @@ side-back buy = refl
 side-back sell = refl
 side-back short = refl
 side-back exempt = refl
+
+pub buy-read : (c : ℕ) → is-buy (side-of c) ≡ eqb c 66
+buy-read c = on (λ t. is-buy (cond t buy (cond (eqb c 83) sell (cond (eqb c 72) short exempt))) ≡ t) (eqb c 66) (λ e. refl)
+    (λ e. on (λ t. is-buy (cond t sell (cond (eqb c 72) short exempt)) ≡ false) (eqb c 83) (λ e. refl) (λ e. on (λ t. is-buy (cond t short exempt) ≡ false) (eqb c 72) (λ e. refl) (λ e. refl)))
 
 group-back : (g : Group) (r : Row) → group-in (patch 0 (group-words g) r) ≡ g
 group-back g r i = record { mpid = g .mpid; terms = record { limits = g .terms .limits; max-size = g .terms .max-size; short-sales = flag-bit (g .terms .short-sales) i }; blocked = flag-bit (g .blocked) i; traded-buys = g .traded-buys; traded-sells = g .traded-sells }

@@ -3,7 +3,7 @@ use mathlib.Core.Path.{_≡_, refl, sym, ap, _∙_, subst}
 use mathlib.Core.Bool.{Bool, true, false, cond, false≢true}
 use mathlib.Core.Option.{Option, none, some, Option·map, Option·none-ne-some, Option·some-injective}
 use mathlib.Core.List.{List, [], _∷_, _++_, map}
-use Prim.Native.Nat.{ℕ, zero, suc, _+_}
+use Prim.Native.Nat.{ℕ, zero, suc, _+_, _≤_}
 use native.Mathlib.Omega.{arith}
 use lib.ListN.{length, length-map, getElem?}
 use Rattle.laws.specs.Tests.{on, opt, is-none, Exact, exact-sym}
@@ -236,6 +236,13 @@ module _ {A K : Type 0} (T : Table A K) where
   sum-put f y [] {x} e = absurd (Option·none-ne-some x e)
   sum-put f y (a ∷ xs) {x} e = on (λ b. cond b (some a) (look (T .key y) xs) ≡ some x → sum f (cond b (y ∷ xs) (a ∷ put y xs)) + f x ≡ f a + sum f xs + f y) (T .same (T .key y) (T .key a))
       (λ q h. let r : f a ≡ f x = cc in omega arith) (λ q h. omega (arith, sum-put f y xs h)) e
+
+  -- an entry's part of a sum
+  pub part-within : (f : A → ℕ) (k : K) (xs : List A) {x : A} → look k xs ≡ some x → f x ≤ sum f xs
+  unfolding look
+  part-within f k [] {x} e = absurd (Option·none-ne-some x e)
+  part-within f k (a ∷ xs) {x} e = on (λ b. cond b (some a) (look k xs) ≡ some x → f x ≤ f a + sum f xs) (T .same k (T .key a))
+      (λ q h. let r : f a ≡ f x = cc in omega arith) (λ q h. omega (arith, part-within f k xs h)) e
 
   pub all-put : (P : A → Type 0) (y : A) (xs : List A) → All P xs → P y → All P (put y xs)
   unfolding put

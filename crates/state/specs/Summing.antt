@@ -17,14 +17,13 @@ use Rattle.laws.specs.Numbered.{apart, apart-each, every, every-no, total, tota
 use Rattle.laws.specs.Checks.{rules-read}
 use Rattle.laws.specs.Rows.{Sheet}
 use Rattle.rulebook.specs.Names.{same-mpid}
-use Rattle.rulebook.specs.Lines.{ceiling, buy, sell, short, exempt, is-buy}
+use Rattle.rulebook.specs.Lines.{ceiling, is-buy}
 use Rattle.rulebook.specs.Cases.{in-range}
 use Rattle.rulebook.specs.Kept.{open-value, is-of, worth}
 use Rattle.books.specs.Layout.{order-start, orders, width-of, groups, groups-at, places-at, mpid-at, open-buys-at, open-sells-at, order-price-at, order-size-at, done-at}
 use Rattle.books.specs.View.{mpid-in, head-in, rows-of, opens-of, order-of, orders-in}
 use Rattle.books.specs.Writing.{group-index}
 use Rattle.books.specs.Refining.{Counted}
-use Rattle.fields.specs.Series.{side-of}
 use Rattle.rules.specs.Passing.{word-at, figures-ok}
 use Rattle.rules.specs.Testing.{sums-are}
 use Rattle.state.specs.Places.{same-desk, figures-right, place-ok, desk-at}
@@ -228,10 +227,6 @@ pub record Due (m : List ℕ) (i k : ℕ) : Type 0 where
   pub desk : k ≡ desk-at m i
   pub listed : k < head-in (rows-of m) groups-at
   pub alone : apart (same-desk m) (head-in (rows-of m) groups-at) ≡ true
-
-pub buy-read : (c : ℕ) → is-buy (side-of c) ≡ eqb c 66
-buy-read c = on (λ t. is-buy (cond t buy (cond (eqb c 83) sell (cond (eqb c 72) short exempt))) ≡ t) (eqb c 66) (λ e. refl)
-    (λ e. on (λ t. is-buy (cond t sell (cond (eqb c 72) short exempt)) ≡ false) (eqb c 83) (λ e. refl) (λ e. on (λ t. is-buy (cond t short exempt) ≡ false) (eqb c 72) (λ e. refl) (λ e. refl)))
 
 -- the figures of an order that is in range
 figures-at : (m : List ℕ) (i : ℕ) → place-ok m i ≡ true → opens-of (rows-of m) i ≡ true → figures-ok m (order-start m i) ≡ true

@@ -4,7 +4,8 @@ use Rattle.state.proofs.slot_of.Statement.{statement}
 use mathlib.Core.Path.{sym, _∙_, ap}
 use Prim.Native.Nat.{_-_}
 use borrow.Author.Tests.{eq-eqb, ne-eqb}
-use Rattle.state.specs.Summing.{slot, buy-read}
+use Rattle.books.specs.Refining.{buy-read}
+use Rattle.state.specs.Summing.{slot}
 use Rattle.state.proofs.slot_of.Tie as tie
 
 returns : tie.Need-returns

@@ -1,0 +1,64 @@
+-- `rulings::find_order` meets its contract: only the place with the key may hold the order, and it does where it is a passed N.
+use borrow.Author.Needs.{needs}
+use Rattle.rulings.proofs.find_order.Statement.{statement}
+use mathlib.Core.Path.{_≡_, sym, ap, _∙_}
+use native.Mathlib.Omega.{arith}
+use Rattle.books.specs.View.{books-in}
+use Rattle.books.specs.Judged.{valid-counted}
+use Rattle.books.specs.Layout.{request-start, room-of}
+use Rattle.books.specs.View.{rows-of}
+use Rattle.rules.specs.Agreeing.{is-order-is}
+use Rattle.rules.specs.Passing.{is-order}
+use Rattle.store.specs.Finding.{named-by}
+use Rattle.rulings.specs.Looking.{found-here, order-here, order-closed, order-free, order-full}
+use Rattle.rulings.proofs.find_order.Tie as tie
+
+shared-slice-read-taken : tie.Need-shared-slice-read-taken
+shared-slice-read-taken c = search needs
+
+find-place-requires : tie.Need-find-place-requires
+find-place-requires c κs = valid-counted _ (c .before .before .pre)
+
+enum-known-i : tie.Need-enum-known-i
+enum-known-i c = search needs
+
+request-at-requires : tie.Need-request-at-requires
+request-at-requires c κs = (valid-counted _ (c .before .before .before .before .before .before .pre), omega (arith, valid-counted _ (c .before .before .before .before .before .before .pre), found-here (rows-of (c .before .before .before .before .before .before .args .mem .now)) (room-of (c .before .before .before .before .before .before .args .mem .now)) (named-by (c .before .before .before .before .before .before .args .key)) _ (sym (c .before .i .given .1) ∙ c .before .before .before .find-place .ensures) .0))
+
+opens-requires : tie.Need-opens-requires
+opens-requires c κs = let m = c .before .before .before .before .before .before .before .args .mem .now in let v = valid-counted _ (c .before .before .before .before .before .before .before .pre) in let h = found-here (rows-of m) (room-of m) (named-by (c .before .before .before .before .before .before .before .args .key)) _ (sym (c .before .before .i .given .1) ∙ c .before .before .before .before .find-place .ensures) .0 in rw (c .request-at .ensures) (record { room = omega (arith, v, h) })
+
+returns : tie.Need-returns
+returns c = order-here (rows-of (c .before .before .before .before .before .before .before .before .before .args .mem .now)) (room-of (c .before .before .before .before .before .before .before .before .before .args .mem .now)) (named-by (c .before .before .before .before .before .before .before .before .before .args .key)) _ (sym (c .before .before .before .before .i .given .1) ∙ c .before .before .before .before .before .before .find-place .ensures) (sym (is-order-is (c .before .before .before .before .before .before .before .before .before .args .mem .now) _) ∙ ap (is-order (c .before .before .before .before .before .before .before .before .before .args .mem .now)) (sym (c .before .before .request-at .ensures)) ∙ sym (c .before .opens .ensures) ∙ c .if1 .taken)
+
+enum-told : tie.Need-enum-told
+enum-told c = search needs
+
+enum-told-2 : tie.Need-enum-told-2
+enum-told-2 c = search needs
+
+returns-2 : tie.Need-returns-2
+unfolding books-in
+returns-2 c = order-closed (rows-of (c .before .before .before .before .before .before .before .before .before .args .mem .now)) (room-of (c .before .before .before .before .before .before .before .before .before .args .mem .now)) (named-by (c .before .before .before .before .before .before .before .before .before .args .key)) (c .before .before .before .before .before .before .before .before .before .pre .sound .asked-apart) _ (sym (c .before .before .before .before .i .given .1) ∙ c .before .before .before .before .before .before .find-place .ensures) (sym (is-order-is (c .before .before .before .before .before .before .before .before .before .args .mem .now) _) ∙ ap (is-order (c .before .before .before .before .before .before .before .before .before .args .mem .now)) (sym (c .before .before .request-at .ensures)) ∙ sym (c .before .opens .ensures) ∙ c .if1 .left)
+
+returns-3 : tie.Need-returns-3
+returns-3 c = order-free (rows-of (c .before .before .before .before .before .args .mem .now)) (room-of (c .before .before .before .before .before .args .mem .now)) (named-by (c .before .before .before .before .before .args .key)) _ (sym (c .enum-told .given .1) ∙ c .before .before .find-place .ensures)
+
+returns-4 : tie.Need-returns-4
+returns-4 c = order-full (rows-of (c .before .before .before .before .before .args .mem .now)) (room-of (c .before .before .before .before .before .args .mem .now)) (named-by (c .before .before .before .before .before .args .key)) (sym (c .enum-told2 .given .1) ∙ c .before .before .find-place .ensures)
+
+pub find-order-spec : {M : Type 1} → statement M
+find-order-spec =
+    tie.close
+    (tie.spec
+    shared-slice-read-taken
+    find-place-requires
+    enum-known-i
+    request-at-requires
+    opens-requires
+    returns
+    enum-told
+    enum-told-2
+    returns-2
+    returns-3
+    returns-4)

@@ -1,0 +1,4 @@
+pub mod Looking
+pub mod Counting
+pub mod Rulings
+pub mod Standing
