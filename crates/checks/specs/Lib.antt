@@ -1,3 +1,5 @@
 pub mod Saying
 pub mod Sides
 pub mod Protection
+pub mod Trying
+pub mod Alike

@@ -3,7 +3,7 @@
 use mathlib.Core.Path.{_≡_, refl, sym, ap, subst, _∙_}
 use mathlib.Core.Bool.{Bool, true, false, _&&_, cond, and-eq-true-iff}
 use mathlib.Core.List.{List, [], _∷_, _++_, map}
-use Prim.Native.Nat.{ℕ, zero, suc, _+_, _*_, _≤_, _<_, max}
+use Prim.Native.Nat.{ℕ, zero, suc, _+_, _*_, _-_, _≤_, _<_, max}
 use native.Mathlib.Omega.{arith}
 use native.Mathlib.Numerals.{add-one}
 use native.Mathlib.Decide.{decLt, decLe}
@@ -12,7 +12,8 @@ use lib.ListN.{length, getD}
 use borrow.Author.Tests.{ltb-true, lt-ltb, le-ltb, leb-true, le-leb, lt-leb, ne-eqb}
 use Rattle.laws.specs.Tests.{on, split}
 use Rattle.laws.specs.Tables.{All}
-use Rattle.rulebook.specs.Prices.{Row, row, rows, row-in, too-far}
+use Rattle.rulebook.specs.Lines.{Side, is-buy}
+use Rattle.rulebook.specs.Prices.{Row, row, rows, row-in, too-far, off-market}
 use Rattle.checks.specs.declared.Row.{Row as RowWords}
 
 -- ── the table ──
@@ -149,3 +150,7 @@ module _ (w : RowWords) (r : Row) (quote far : ℕ) (e : terms (row-said w) ≡ 
     where
       same : (a b n : ℕ) → a ≤ n → leb b n ≡ leb (max a b) n
       same a b n h = elim (decLe b n) [ yes le ↦ le-leb b n le ∙ sym (le-leb (max a b) n (omega arith)) | no gt ↦ lt-leb b n (omega arith) ∙ sym (lt-leb (max a b) n (omega arith)) ]
+
+pub none-quoted : (x : Side) (price : ℕ) → false ≡ off-market x price 0 0
+unfolding off-market
+none-quoted x price = on (λ b. false ≡ cond b (too-far (row-in price rows) 0 (price - 0)) (too-far (row-in price rows) 0 (0 - price))) (is-buy x) (λ e. none-known (row-in price rows) 0 (price - 0) refl) (λ e. none-known (row-in price rows) 0 (0 - price) refl)

@@ -1,12 +1,14 @@
 -- Document 01, "Side: B buy, S sell, H sell short, E sell short exempt": what a side's letter says.
-use mathlib.Core.Path.{_≡_, refl}
+use mathlib.Core.Path.{_≡_, refl, sym, ap, _∙_}
 use mathlib.Core.Bool.{Bool, true, false, not, _&&_, cond}
-use Prim.Native.Nat.{ℕ}
+use Prim.Native.Nat.{ℕ, zero, suc}
 use Prim.Native.Char.{code}
+use native.Mathlib.Omega.{arith}
 use lib.Dec.{eqb}
-use Rattle.laws.specs.Tests.{on}
+use borrow.Author.Tests.{ne-eqb, lt-ltb}
 use Rattle.rulebook.specs.Lines.{Side, buy, sell, short, exempt, is-buy, is-short}
 use Rattle.fields.specs.Series.{side-of}
+use Rattle.books.specs.View.{flag}
 
 -- the side that the tests of a letter say
 abbrev side-by : Bool → Bool → Bool → Side
@@ -31,3 +33,8 @@ short-letter c = by (eqb c (code "B")) (eqb c (code "S")) (eqb c (code "H"))
     by false true h = refl
     by false false true = refl
     by false false false = refl
+
+-- a mark that is 0 is not set
+pub unmarked : (n : ℕ) → eqb n 0 ≡ not (flag n)
+unmarked zero = refl
+unmarked (suc n) = ne-eqb (suc n) 0 (λ e. omega arith) ∙ ap not (sym (lt-ltb 0 (suc n) (omega arith)))

@@ -1,9 +1,16 @@
 // Document 01's per-order checks and limits, each list in its order.
 ghost use mathlib.Core.Path.{_≡_};
-ghost use Prim.Native.Nat.{_-_, _≤_, _<_};
+ghost use Prim.Native.Nat.{_+_, _-_, _≤_, _<_};
 ghost use Rattle.rulebook.specs.Prices.{tick, bad-price, rows, row-in, too-far, off-market};
 ghost use Rattle.rulebook.specs.Lines.{is-buy};
 ghost use Rattle.fields.specs.Series.{side-of};
+ghost use Rattle.laws.specs.Checks.{first};
+ghost use Rattle.rulebook.specs.Kept.{metrics, limit-checks, sized};
+ghost use Rattle.rulebook.specs.Judging.{new-checks, change-checks, cancel-checks, fill-checks, reduction-checks, refused-checks};
+ghost use Rattle.books.specs.View.{flag, group-of, rows-of};
+ghost use Rattle.books.specs.Refining.{Counted};
+ghost use Rattle.checks.specs.Saying.{figures-said, tally-said, order-said, symbol-at};
+ghost use Rattle.checks.specs.Trying.{Measurable, Quotable, Checkable, new-figures, order-with, is-over, off-quotes, is-barred, price-checks};
 ghost use Rattle.checks.specs.Protection.{table, row-at, row-said, terms, Quoted};
 
 // An order's figures; done is filled plus reduced, and `asked` is whether its cancel was asked for.
@@ -21,6 +28,9 @@ pub struct Tally {
     pub ob: u64,
     pub os: u64,
 }
+
+// "gross of both at most the ceiling".
+const CEILING: u64 = 4_000_000_000_000_000_000;
 
 // The letters of the sides that are no short sales.
 const BUY: u64 = 66;
@@ -154,4 +164,202 @@ pub fn off_market(side: u64, price: u64, bid: u64, offer: u64) -> bool
         return too_far(price, offer, beyond(price, offer));
     }
     too_far(price, bid, beyond(bid, price))
+}
+
+// Whether the gross of buys and sells is above its limit, or their net, how far they are apart, above its own.
+fn is_over(buys: u64, sells: u64, gross: u64, apart: u64) -> bool
+    requires { ⌜ buys + sells ≤ 5_000_000_000_000_000_000 ⌝ }
+    ensures { λ r. ⌜ r ≡ is-over buys sells gross apart ⌝ }
+{
+    if buys + sells > gross {
+        return true;
+    }
+    net::net_size(buys, sells) > apart
+}
+
+// 15 where a metric is above its limit, traded, open or both, and else 0.
+pub fn limit_number(mem: &[u64], group: usize, t: Tally) -> u64
+    requires { ⌜ Measurable (now mem) group t ⌝ }
+    ensures { λ r. ⌜ r ≡ first (limit-checks (group-of (rows-of (now (mem .entry))) group .terms .limits) (metrics (tally-said t))) ⌝ }
+{
+    let b = books::GROUPS + group * books::GROUP_WORDS;
+    if is_over(
+        t.tb,
+        t.ts,
+        mem[b + books::GROSS_TRADE],
+        mem[b + books::NET_TRADE],
+    ) {
+        return 15;
+    }
+    if is_over(
+        t.ob,
+        t.os,
+        mem[b + books::GROSS_OPEN],
+        mem[b + books::NET_OPEN],
+    ) {
+        return 15;
+    }
+    if is_over(
+        t.tb + t.ob,
+        t.ts + t.os,
+        mem[b + books::GROSS_BOTH],
+        mem[b + books::NET_BOTH],
+    ) {
+        return 15;
+    }
+    0
+}
+
+// Whether price protection refuses an order by the quotes of its symbol's row. Where that is not listed no quote is known, and it does not.
+fn off_quotes(mem: &[u64], symbol: usize, side: u64, price: u64) -> bool
+    requires { ⌜ Quotable (now mem) symbol price ⌝ }
+    ensures { λ r. ⌜ r ≡ off-quotes (symbol-at (rows-of (now (mem .entry))) symbol) (side-of side) price ⌝ }
+{
+    if symbol >= mem[books::SYMBOLS_LISTED] as usize {
+        return false;
+    }
+    let b = books::SYMBOLS + symbol * books::SYMBOL_WORDS;
+    off_market(side, price, mem[b + books::BID], mem[b + books::OFFER])
+}
+
+// What an N and an M are tried by last: 13, 14 or 15, or 0 where none of them refuses.
+fn price_number(mem: &[u64], group: usize, symbol: usize, t: Tally, side: u64, price: u64) -> u64
+    requires { ⌜ Checkable (now mem) group symbol t price ⌝ }
+    ensures { λ r. ⌜ r ≡ first (price-checks (group-of (rows-of (now (mem .entry))) group) (symbol-at (rows-of (now (mem .entry))) symbol) (tally-said t) (side-of side) price) ⌝ }
+{
+    if bad_price(price) {
+        return 13;
+    }
+    if off_quotes(mem, symbol, side, price) {
+        return 14;
+    }
+    limit_number(mem, group, t)
+}
+
+// Whether a side is a short sale where short sales are not marked as allowed.
+fn is_barred(side: u64, mark: u64) -> bool
+    ensures { λ r. ⌜ r ≡ is-barred (side-of side) (flag mark) ⌝ }
+{
+    if side == BUY {
+        return false;
+    }
+    if side == SELL {
+        return false;
+    }
+    mark == 0
+}
+
+// What an N is tried by: 8, 10, 11, 12, 13, 14, 15, the first that refuses it, or 0.
+pub fn new_number(
+    mem: &[u64],
+    group: usize,
+    symbol: usize,
+    t: Tally,
+    side: u64,
+    size: u64,
+    price: u64,
+) -> u64
+    requires { ⌜ Checkable (now mem) group symbol t price ⌝ }
+    ensures { λ r. ⌜ r ≡ first (new-checks (group-of (rows-of (now (mem .entry))) group) (symbol-at (rows-of (now (mem .entry))) symbol) (tally-said t) (order-said side (new-figures size price))) ⌝ }
+{
+    if symbol >= mem[books::SYMBOLS_LISTED] as usize {
+        return 8;
+    }
+    let b = books::GROUPS + group * books::GROUP_WORDS;
+    if mem[b + books::BLOCKED] > 0 {
+        return 10;
+    }
+    if is_barred(side, mem[b + books::SHORT_SALES]) {
+        return 11;
+    }
+    if size > mem[b + books::MAX_SIZE] {
+        return 12;
+    }
+    price_number(mem, group, symbol, t, side, price)
+}
+
+// What an M is tried by: 9, 17, 10, 12, 16, 13, 14, 15, the first that refuses it, or 0. `old` is the target as it stands.
+pub fn change_number(
+    mem: &[u64],
+    group: usize,
+    symbol: usize,
+    t: Tally,
+    side: u64,
+    old: Figures,
+    size: u64,
+    price: u64,
+) -> u64
+    requires { ⌜ Checkable (now mem) group symbol t price ⌝ }
+    ensures { λ r. ⌜ r ≡ first (change-checks (group-of (rows-of (now (mem .entry))) group) (symbol-at (rows-of (now (mem .entry))) symbol) (tally-said t) (order-said side old) (sized size price (figures-said old))) ⌝ }
+{
+    if old.size <= old.done {
+        return 9;
+    }
+    if old.asked {
+        return 17;
+    }
+    let b = books::GROUPS + group * books::GROUP_WORDS;
+    if mem[b + books::BLOCKED] > 0 {
+        return 10;
+    }
+    if size > mem[b + books::MAX_SIZE] {
+        return 12;
+    }
+    if size <= old.done {
+        return 16;
+    }
+    price_number(mem, group, symbol, t, side, price)
+}
+
+// What a C is tried by: 9 where the target is not open, 17 where its cancel was asked for, else 0.
+pub fn cancel_number(f: Figures) -> u64
+    ensures { λ r. ⌜ r ≡ first (cancel-checks (order-with f)) ⌝ }
+{
+    if f.size <= f.done {
+        return 9;
+    }
+    if f.asked {
+        return 17;
+    }
+    0
+}
+
+// What an H is tried by: 9 where the target is not open, else 0.
+pub fn refused_number(f: Figures) -> u64
+    ensures { λ r. ⌜ r ≡ first (refused-checks (order-with f)) ⌝ }
+{
+    if f.size <= f.done {
+        return 9;
+    }
+    0
+}
+
+// What a D is tried by: 9 where the target is not open, 19 where the size is above what remains, else 0.
+pub fn reduction_number(f: Figures, size: u64) -> u64
+    ensures { λ r. ⌜ r ≡ first (reduction-checks size (order-with f)) ⌝ }
+{
+    if f.size <= f.done {
+        return 9;
+    }
+    if size > f.size - f.done {
+        return 19;
+    }
+    0
+}
+
+// What an F is tried by: 9 and 19 as a D is, 20 where gross of both is above the ceiling, else 0. The tally is that with the fill.
+pub fn fill_number(t: Tally, f: Figures, size: u64) -> u64
+    requires { ⌜ metrics (tally-said t) .gross-both ≤ 5_000_000_000_000_000_000 ⌝ }
+    ensures { λ r. ⌜ r ≡ first (fill-checks (tally-said t) size (order-with f)) ⌝ }
+{
+    if f.size <= f.done {
+        return 9;
+    }
+    if size > f.size - f.done {
+        return 19;
+    }
+    if t.tb + t.ts + (t.ob + t.os) > CEILING {
+        return 20;
+    }
+    0
 }

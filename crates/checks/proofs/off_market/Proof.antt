@@ -1,6 +1,6 @@
 -- `checks::off_market` meets its contract: a buy is held to the offer, and any other side to the bid.
 use borrow.Author.Needs.{needs}
-use mathlib.Core.Path.{refl, sym, _∙_}
+use mathlib.Core.Path.{sym, _∙_}
 use Rattle.rulebook.specs.Prices.{off-market}
 use Rattle.checks.proofs.off_market.Statement.{statement}
 use Rattle.checks.proofs.off_market.Tie as tie

@@ -2,7 +2,6 @@
 use borrow.Author.Needs.{needs}
 use mathlib.Core.Path.{ap, subst, _∙_}
 use Prim.Native.Nat.{_≤_, _<_, _-_}
-use native.Mathlib.Omega.{arith}
 use Rattle.checks.specs.Protection.{table, start, row-said, terms, row-later, row-right}
 use Rattle.checks.specs.declared.Row.{Row}
 use Rattle.checks.proofs.row_of.Statement.{statement}

@@ -1,6 +1,5 @@
 -- `checks::too_far` meets its contract: what is at least the percentage and the dollar part is at least the greater of them.
 use borrow.Author.Needs.{needs}
-use Prim.Native.Nat.{_*_, _≤_}
 use native.Mathlib.Omega.{arith}
 use native.Mathlib.Nat.{mul-le-mul}
 use Rattle.rulebook.specs.Prices.{rows, row-in}
