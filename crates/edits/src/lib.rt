@@ -59,16 +59,8 @@ pub enum GroupShift {
 // A symbol listed, or its quotes set.
 pub enum SymbolShift {
     Stay,
-    Adds {
-        id: u64,
-        bid: u64,
-        offer: u64,
-    },
-    Puts {
-        symbol: usize,
-        bid: u64,
-        offer: u64,
-    },
+    Adds { id: u64, bid: u64, offer: u64 },
+    Puts { symbol: usize, bid: u64, offer: u64 },
 }
 
 // A deed: at most one order, one group and one symbol.

@@ -1,18 +1,22 @@
 -- What judging may rely on: a memory that meets the state rules, a desk that is listed, sizes and prices in their forms.
-use mathlib.Core.Path.{_≡_}
-use mathlib.Core.Bool.{Bool, cond}
+use mathlib.Core.Path.{_≡_, refl, sym, ap, _∙_, subst}
+use mathlib.Core.Bool.{Bool, true, cond}
 use mathlib.Core.Option.{some}
 use mathlib.Core.List.{List}
 use Prim.Native.Nat.{ℕ, _≤_, _<_}
-use Rattle.laws.specs.Tables.{look}
+use Rattle.laws.specs.Tables.{look, look-key, look-self, all-look, put}
+use Rattle.laws.specs.Numbered.{each-those}
+use Rattle.laws.specs.Rows.{Sheet}
 use Rattle.rulebook.specs.Names.{Mpid, Key}
-use Rattle.rulebook.specs.Lines.{ceiling}
-use Rattle.rulebook.specs.Kept.{by-key, Tally, metrics}
-use Rattle.books.specs.Layout.{groups-at, places-at}
-use Rattle.books.specs.View.{head-in, group-of, order-of, orders-in, rows-of}
+use Rattle.rulebook.specs.Lines.{ceiling, is-buy}
+use Rattle.rulebook.specs.Kept.{Figures, Order, by-mpid, by-key, with-figures, open-value, Tally, tally, metrics}
+use Rattle.rulebook.specs.Rules.{SoundOrder}
+use Rattle.books.specs.Layout.{groups, groups-at, places-at, traded-buys-at, traded-sells-at}
+use Rattle.books.specs.View.{tally-in, head-in, group-of, order-of, orders-in, books-in, rows-of, view}
 use Rattle.books.specs.Writing.{group-index, order-index}
 use Rattle.books.specs.Rules.{Valid}
-use Rattle.rulings.specs.Counting.{most-value}
+use Rattle.rulings.specs.Counting.{value-said, exchanged, tally-puts, most-value, value-within}
+use Rattle.rulings.specs.Looking.{at-row, group-looked, order-looked, row-there}
 use Rattle.rulings.specs.declared.Deal.{Deal}
 use Rattle.rulings.specs.declared.News.{News}
 
@@ -50,3 +54,78 @@ pub record Exchangeable (b : Bool) (old new : ℕ) (t : Tally) : Type 0 where
 pub record Payable (value : ℕ) (t : Tally) : Type 0 where
   pub most : value ≤ most-value
   pub within : metrics t .gross-both ≤ ceiling
+
+-- the tally of a group after an order takes other figures
+abbrev pub tally-after : Sheet → ℕ → Order → Figures → Tally
+tally-after S g o f = tally (group-of S g) (put by-key (with-figures o f) (orders-in S))
+
+-- the order at the i-th place is one of the g-th group's
+pub record Held (m : List ℕ) (g i : ℕ) : Type 0 where
+  pub valid : Valid m
+  pub listed : g < head-in (rows-of m) groups-at
+  pub found : group-index (rows-of m) (group-of (rows-of m) g .mpid) ≡ g
+  pub placed : i < head-in (rows-of m) places-at
+  pub owned : group-of (rows-of m) g .mpid ≡ order-of (rows-of m) i .ticket .key .owner .mpid
+  pub stands : look by-key (order-of (rows-of m) i .ticket .key) (orders-in (rows-of m)) ≡ some (order-of (rows-of m) i)
+  pub again : order-index (rows-of m) (order-of (rows-of m) i .ticket .key) ≡ i
+
+-- a desk is found at its group
+pub desk-looked : (m : List ℕ) (p : Mpid) (g : ℕ) → Desk m p g → look by-mpid p (view m .ledger .groups) ≡ some (group-of (rows-of m) g)
+desk-looked m p g d = group-looked m p ∙ ap (λ (i : ℕ). at-row (group-of (rows-of m)) i (head-in (rows-of m) groups-at)) (d .found) ∙ row-there (group-of (rows-of m)) g (head-in (rows-of m) groups-at) (d .listed)
+
+-- and it has that MPID
+pub desk-mpid : (m : List ℕ) (p : Mpid) (g : ℕ) → Desk m p g → p ≡ group-of (rows-of m) g .mpid
+desk-mpid m p g d = look-key by-mpid p (view m .ledger .groups) (desk-looked m p g d)
+
+pub held : (m : List ℕ) (k : Key) (g i : ℕ) → Desk m (k .owner .mpid) g → order-index (rows-of m) k ≡ i → i < head-in (rows-of m) places-at → Held m g i
+unfolding books-in
+held m k g i d e lt =
+    let l : look by-key k (orders-in (rows-of m)) ≡ some (order-of (rows-of m) i) = order-looked m k ∙ ap (λ (i : ℕ). at-row (order-of (rows-of m)) i (head-in (rows-of m) places-at)) e ∙ row-there (order-of (rows-of m)) i (head-in (rows-of m) places-at) lt in
+    let q : k ≡ order-of (rows-of m) i .ticket .key = look-key by-key k (orders-in (rows-of m)) l in
+    let p = desk-mpid m (k .owner .mpid) g d in
+    record {
+      valid = d .valid;
+      listed = d .listed;
+      found = subst (λ p. group-index (rows-of m) p ≡ g) p (d .found);
+      placed = lt;
+      owned = sym p ∙ ap (λ (k : Key). k .owner .mpid) q;
+      stands = look-self by-key k (orders-in (rows-of m)) l;
+      again = subst (λ k. order-index (rows-of m) k ≡ i) q e;
+    }
+
+-- ── what a memory that meets the state rules gives ──
+module _ (m : List ℕ) (v : Valid m) where
+  -- the stored totals are the tally
+  pub stored-tally : (g : ℕ) → g < head-in (rows-of m) groups-at → tally (group-of (rows-of m) g) (orders-in (rows-of m)) ≡ tally-in (rows-of m groups g)
+  stored-tally g lt = let s = v .summed g lt in let r = rows-of m groups g in λ i. record { tb = r traded-buys-at; ts = r traded-sells-at; ob = sym (s .open-buys) i; os = sym (s .open-sells) i }
+
+  pub stored-within : (g : ℕ) → g < head-in (rows-of m) groups-at → metrics (tally-in (rows-of m groups g)) .gross-both ≤ ceiling
+  unfolding books-in
+  stored-within g lt = subst (λ (t : Tally). metrics t .gross-both ≤ ceiling) (stored-tally g lt) (each-those _ (λ i. true) (group-of (rows-of m)) (head-in (rows-of m) groups-at) (v .sound .ledger .gross-within) g lt refl)
+
+module _ (m : List ℕ) (g i : ℕ) (h : Held m g i) where
+  abbrev order : Order
+  order = order-of (rows-of m) i
+
+  held-sound : SoundOrder (view m .ledger .symbols) order
+  unfolding books-in
+  held-sound = all-look by-key (SoundOrder (view m .ledger .symbols)) (order .ticket .key) (orders-in (rows-of m)) (h .valid .sound .ledger .orders-sound) (h .stands)
+
+  pub held-small : Small (order .figures .size) (order .figures .price)
+  held-small = let s = held-sound in record { small = s .size-fits .1; cheap = s .price-fits .1 }
+
+  pub held-done : order .figures .done ≤ order .figures .size
+  held-done = held-sound .done-within
+
+  pub held-exchangeable : (new : ℕ) → new ≤ most-value → Exchangeable (is-buy (order .ticket .side)) (value-said (order .figures)) new (tally-in (rows-of m groups g))
+  unfolding open-value
+  held-exchangeable new n = record {
+    part = subst (λ (t : Tally). open-value order ≤ cond (is-buy (order .ticket .side)) (t .ob) (t .os)) (stored-tally m (h .valid) g (h .listed)) (value-within (group-of (rows-of m) g) (orders-in (rows-of m)) order (h .owned) (h .stands));
+    most = n;
+    within = stored-within m (h .valid) g (h .listed);
+  }
+
+  -- the tally with other figures, from the stored totals
+  pub held-tally : (f : Figures) → exchanged (is-buy (order .ticket .side)) (value-said (order .figures)) (value-said f) (tally-in (rows-of m groups g)) ≡ tally-after (rows-of m) g order f
+  unfolding open-value
+  held-tally f = sym (tally-puts (group-of (rows-of m) g) (orders-in (rows-of m)) order f (h .owned) (h .stands) ∙ ap (exchanged (is-buy (order .ticket .side)) (value-said (order .figures)) (value-said f)) (stored-tally m (h .valid) g (h .listed)))
