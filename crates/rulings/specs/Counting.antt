@@ -1,23 +1,19 @@
 -- A group's tally after an order is added or amended: its stored totals, with the order's part exchanged.
 use mathlib.Core.Path.{_≡_, refl, sym, ap, _∙_, subst}
-use mathlib.Core.Bool.{Bool, true, false, _&&_, cond, Bool·beq}
+use mathlib.Core.Bool.{Bool, true, false, cond, Bool·beq}
 use mathlib.Core.Option.{some}
 use mathlib.Core.List.{List, [], _∷_, _++_}
-use Prim.Native.Nat.{ℕ, _+_, _*_, _-_, _≤_, _<_}
+use Prim.Native.Nat.{ℕ, _+_, _*_, _-_, _≤_}
 use native.Mathlib.Omega.{arith}
 use native.Mathlib.Nat.{add-zero, zero-mul, mul-le-mul, mul-le-mul-right}
 use borrow.Author.Tests.{eq-eqb, ne-eqb}
 use Rattle.laws.specs.Tests.{on}
-use Rattle.laws.specs.Tables.{sum, sum-append, look, look-self, put, sum-put, part-within, all-look}
-use Rattle.rulebook.specs.Names.{Mpid, Key, mpid-exact, same-mpid}
+use Rattle.laws.specs.Tables.{sum, sum-append, look, put, sum-put, part-within}
+use Rattle.rulebook.specs.Names.{Mpid, mpid-exact}
 use Rattle.rulebook.specs.Lines.{ceiling, is-buy}
-use Rattle.rulebook.specs.Kept.{Figures, Order, Group, by-key, remaining, with-figures, traded, open-value, is-of, worth, Tally, tally, metrics}
-use Rattle.rulebook.specs.Rules.{SoundOrder}
+use Rattle.rulebook.specs.Kept.{Figures, Order, Group, by-key, remaining, with-figures, traded, open-value, worth, Tally, tally, metrics}
 use Rattle.fields.specs.Series.{side-of}
-use Rattle.books.specs.Layout.{groups, groups-at}
 use Rattle.books.specs.Refining.{buy-read}
-use Rattle.books.specs.View.{tally-in, head-in, group-of, orders-in, rows-of, view, books-in}
-use Rattle.books.specs.Rules.{Valid}
 
 -- remaining x price
 abbrev pub value-said : Figures → ℕ
@@ -85,8 +81,11 @@ value-none z d p h = let q : z - d ≡ 0 = omega arith in sym (ap (λ n. n * p) 
 abbrev pub most-value : ℕ
 most-value = 1_000_000_000_000_000_000
 
+pub product-small : (z p : ℕ) → z ≤ 1_000_000 → p ≤ 999_999_999_999 → z * p ≤ most-value
+product-small z p h k = let w : z * p ≤ 1_000_000 * 999_999_999_999 = mul-le-mul {n₂ = 1_000_000} h k in omega (arith, w)
+
 pub value-small : (z d p : ℕ) → z ≤ 1_000_000 → p ≤ 999_999_999_999 → (z - d) * p ≤ most-value
-value-small z d p h k = let w : (z - d) * p ≤ 1_000_000 * 999_999_999_999 = mul-le-mul {n₂ = 1_000_000} (omega arith) k in omega (arith, w)
+value-small z d p h k = product-small (z - d) p (omega arith) k
 
 pub exchanged-small : (b : Bool) (old new : ℕ) (t : Tally) → new ≤ most-value → metrics t .gross-both ≤ ceiling → metrics (exchanged b old new t) .gross-both ≤ ceiling + most-value
 unfolding exchanged

@@ -13,7 +13,7 @@ use Rattle.laws.specs.Tables.{look, Apart, Distinct}
 use Rattle.laws.specs.Numbered.{numbered, Least, least-is, least-at, least-none, find-those, numbered-distinct, map-those}
 use Rattle.laws.specs.Rows.{Sheet}
 use Rattle.rulebook.specs.Names.{Mpid, Key, same-mpid, same-key, key-exact}
-use Rattle.rulebook.specs.Kept.{Group, Symbol, Order, Asked, by-mpid, by-id, by-key, by-request}
+use Rattle.rulebook.specs.Kept.{Asked, by-mpid, by-id, by-key, by-request}
 use Rattle.books.specs.Layout.{groups-at, symbols-at, places-at}
 use Rattle.books.specs.View.{head-in, group-of, symbol-of, asked-of, opens-of, order-of, view, rows-of, books-in}
 use Rattle.books.specs.Writing.{group-index, symbol-index, order-index}

@@ -1,21 +1,32 @@
 -- What judging may rely on: a memory that meets the state rules, a desk that is listed, sizes and prices in their forms.
 use mathlib.Core.Path.{_≡_, refl, sym, ap, _∙_, subst}
 use mathlib.Core.Bool.{Bool, true, cond}
-use mathlib.Core.Option.{some}
+use mathlib.Core.Option.{none, some}
 use mathlib.Core.List.{List}
-use Prim.Native.Nat.{ℕ, _≤_, _<_}
+use Prim.Native.Nat.{ℕ, _+_, _≤_, _<_}
+use native.Mathlib.Omega.{arith}
+use lib.Dec.{ltb}
+use lib.ListN.{length}
+use borrow.Author.Tests.{ltb-true}
+use Rattle.laws.specs.Tests.{on}
 use Rattle.laws.specs.Tables.{look, look-key, look-self, all-look, put}
 use Rattle.laws.specs.Numbered.{each-those}
 use Rattle.laws.specs.Rows.{Sheet}
 use Rattle.rulebook.specs.Names.{Mpid, Key}
 use Rattle.rulebook.specs.Lines.{ceiling, is-buy}
-use Rattle.rulebook.specs.Kept.{Figures, Order, by-mpid, by-key, with-figures, open-value, Tally, tally, metrics}
-use Rattle.rulebook.specs.Rules.{SoundOrder}
-use Rattle.books.specs.Layout.{groups, groups-at, places-at, traded-buys-at, traded-sells-at}
-use Rattle.books.specs.View.{tally-in, head-in, group-of, order-of, orders-in, books-in, rows-of, view}
+use Rattle.rulebook.specs.Kept.{Figures, Order, by-mpid, by-key, with-figures, worked, open-value, Tally, tally, metrics}
+use Rattle.rulebook.specs.Judging.{quotes}
+use Rattle.rulebook.specs.Rules.{FitsSymbol, SoundOrder}
+use Rattle.books.specs.Layout.{groups, requests, room-of, request-start, width-of, groups-at, symbols-at, places-at, traded-buys-at, traded-sells-at}
+use Rattle.books.specs.View.{tally-in, head-in, group-of, symbol-of, order-of, orders-in, books-in, rows-of, view}
 use Rattle.books.specs.Writing.{group-index, order-index}
 use Rattle.books.specs.Rules.{Valid}
-use Rattle.rulings.specs.Counting.{value-said, exchanged, tally-puts, most-value, value-within}
+use Rattle.books.specs.Refining.{Counted}
+use Rattle.books.specs.Judged.{valid-counted}
+use Rattle.checks.specs.Saying.{tally-said, symbol-at}
+use Rattle.checks.specs.Trying.{Checkable}
+use Rattle.checks.specs.declared.Tally.{Tally as TallyWords}
+use Rattle.rulings.specs.Counting.{value-said, exchanged, tally-puts, most-value, value-within, value-small, exchanged-small, exchanged-less, worked-less}
 use Rattle.rulings.specs.Looking.{at-row, group-looked, order-looked, row-there}
 use Rattle.rulings.specs.declared.Deal.{Deal}
 use Rattle.rulings.specs.declared.News.{News}
@@ -103,6 +114,10 @@ module _ (m : List ℕ) (v : Valid m) where
   unfolding books-in
   stored-within g lt = subst (λ (t : Tally). metrics t .gross-both ≤ ceiling) (stored-tally g lt) (each-those _ (λ i. true) (group-of (rows-of m)) (head-in (rows-of m) groups-at) (v .sound .ledger .gross-within) g lt refl)
 
+  -- a new order's value may be counted
+  pub new-exchangeable : (g : ℕ) → g < head-in (rows-of m) groups-at → (b : Bool) (new : ℕ) → new ≤ most-value → Exchangeable b 0 new (tally-in (rows-of m groups g))
+  new-exchangeable g lt b new h = record { part = omega arith; most = h; within = stored-within g lt }
+
 module _ (m : List ℕ) (g i : ℕ) (h : Held m g i) where
   abbrev order : Order
   order = order-of (rows-of m) i
@@ -129,3 +144,38 @@ module _ (m : List ℕ) (g i : ℕ) (h : Held m g i) where
   pub held-tally : (f : Figures) → exchanged (is-buy (order .ticket .side)) (value-said (order .figures)) (value-said f) (tally-in (rows-of m groups g)) ≡ tally-after (rows-of m) g order f
   unfolding open-value
   held-tally f = sym (tally-puts (group-of (rows-of m) g) (orders-in (rows-of m)) order f (h .owned) (h .stands) ∙ ap (exchanged (is-buy (order .ticket .side)) (value-said (order .figures)) (value-said f)) (stored-tally m (h .valid) g (h .listed)))
+
+  -- the words of the order's rows are there
+  pub record Bounds : Type 0 where
+    pub counts : Counted m
+    pub few : g < 64
+    pub room : i < room-of m
+    pub request : request-start m i + width-of requests ≤ length m
+
+  pub held-bounds : Bounds
+  held-bounds = let c = valid-counted m (h .valid) in let r : i < room-of m = omega (arith, c, h .placed) in
+      record { counts = c; few = omega (arith, c, h .listed); room = r; request = omega (arith, c, r) }
+
+  pub changed-small : (f : Figures) → Small (f .size) (f .price) → metrics (tally-after (rows-of m) g order f) .gross-both ≤ 5_000_000_000_000_000_000
+  changed-small f s = let e = held-exchangeable 0 (omega arith) in
+      subst (λ (t : Tally). metrics t .gross-both ≤ 5_000_000_000_000_000_000) (held-tally f) (exchanged-small (is-buy (order .ticket .side)) (value-said (order .figures)) (value-said f) (tally-in (rows-of m groups g)) (value-small (f .size) (f .done) (f .price) (s .small) (s .cheap)) (e .within))
+
+  -- an order that is worked leaves gross of both at most the ceiling
+  pub worked-within : (z : ℕ) → metrics (tally-after (rows-of m) g order (worked z (order .figures))) .gross-both ≤ ceiling
+  worked-within z = let f = order .figures in let t = tally-in (rows-of m groups g) in let e = held-exchangeable 0 (omega arith) in
+      subst (λ (t : Tally). metrics t .gross-both ≤ ceiling) (held-tally (worked z f))
+      (exchanged-less (is-buy (order .ticket .side)) (value-said f) (value-said (worked z f)) t (worked-less (f .size) (f .done) z (f .price)) (e .part) (e .within))
+
+-- ── quotes are in range ──
+pub quotes-small : (m : List ℕ) → Valid m → (y : ℕ) → (quotes (symbol-at (rows-of m) y) .bid ≤ 999_999_999_999) × (quotes (symbol-at (rows-of m) y) .offer ≤ 999_999_999_999)
+unfolding books-in
+quotes-small m v y = on (λ b. ltb y n ≡ b → (quotes (cond b (some (symbol-of (rows-of m) y)) none) .bid ≤ 999_999_999_999) × (quotes (cond b (some (symbol-of (rows-of m) y)) none) .offer ≤ 999_999_999_999)) (ltb y n)
+    (λ z q. let f = each-those FitsSymbol (λ i. true) (symbol-of (rows-of m)) n (v .sound .ledger .symbols-fit) y (ltb-true y n q) refl in (f .1 .1 .0 .1, f .1 .1 .1 .0 .1)) (λ z q. (omega arith, omega arith)) refl
+  where
+    n : ℕ
+    n = head-in (rows-of m) symbols-at
+
+-- what N and M are checked by
+pub checkable : (m : List ℕ) → Valid m → (g y : ℕ) (t : TallyWords) (p : ℕ) → g < head-in (rows-of m) groups-at → metrics (tally-said t) .gross-both ≤ 5_000_000_000_000_000_000 → p ≤ 999_999_999_999 → Checkable m g y t p
+checkable m v g y t p lt w c = let n = valid-counted m v in let q = quotes-small m v y in
+    record { measurable = record { long = n .long; few = omega (arith, n, lt); within = w }; quotable = record { counts = n; priced = c; bid = q .0; offer = q .1 } }

@@ -1,18 +1,21 @@
+-- `rulings::amend` meets its contract: nothing is changed where the number is not 0.
 use borrow.Author.Needs.{needs}
 use Rattle.rulings.proofs.amend.Statement.{statement}
+use mathlib.Core.Path.{refl, _∙_}
+use borrow.Author.Tests.{eq-eqb, ne-eqb}
+use Rattle.rulings.specs.Rulings.{amended-with}
 use Rattle.rulings.proofs.amend.Tie as tie
-use Rattle.rulings.proofs.amend.Reads as reads
-use Rattle.rulings.proofs.amend.Lts as lts
-use Rattle.rulings.proofs.hold.Reads as hold-reads
 
 hold-requires : tie.Need-hold-requires
 hold-requires c κs = search needs
 
 returns : tie.Need-returns
-returns c = ?
+unfolding amended-with
+returns c = c .hold .ensures ∙ rw (ne-eqb (c .before .before .args .number) 0 (c .before .if1 .taken)) refl
 
 returns-2 : tie.Need-returns-2
-returns-2 c = ?
+unfolding amended-with
+returns-2 c = rw (eq-eqb (c .before .args .number) 0 (c .if1 .left)) refl
 
 pub amend-spec : {M : Type 1} → statement M
 amend-spec = tie.close (tie.spec hold-requires returns returns-2)

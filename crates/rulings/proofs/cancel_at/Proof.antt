@@ -1,22 +1,21 @@
+-- `rulings::cancel_at` meets its contract: no value is changed, and the checks go by the figures as they stand.
 use borrow.Author.Needs.{needs}
 use Rattle.rulings.proofs.cancel_at.Statement.{statement}
+use mathlib.Core.Path.{sym, ap, _∙_, subst}
+use mathlib.Core.Bool.{true}
+use Rattle.rulebook.specs.Kept.{Figures, asking}
+use Rattle.rulings.specs.Standing.{Small, held-bounds, held-small}
+use Rattle.rulings.specs.Granting.{cancel-ruled}
 use Rattle.rulings.proofs.cancel_at.Tie as tie
-use Rattle.rulings.proofs.cancel_at.Reads as reads
-use Rattle.rulings.proofs.cancel_at.Lts as lts
-use Rattle.checks.proofs.cancel_number.Reads as cancel-number-reads
-use Rattle.rulings.proofs.amend.Reads as amend-reads
-use Rattle.rulings.proofs.asking.Reads as asking-reads
-use Rattle.rulings.proofs.figures_at.Reads as figures-at-reads
-use Rattle.rulings.proofs.tally_with.Reads as tally-with-reads
 
 figures-at-requires : tie.Need-figures-at-requires
-figures-at-requires c κs = ?
+figures-at-requires c κs = let b = held-bounds (c .before .args .mem .now) (c .before .args .group) (c .before .args .i) (c .before .pre) in (b .counts, b .room)
 
 asking-requires : tie.Need-asking-requires
 asking-requires c κs = search needs
 
 tally-with-requires : tie.Need-tally-with-requires
-tally-with-requires c κs = ?
+tally-with-requires c κs = (c .before .before .before .pre, subst (λ (f : Figures). Small (f .size) (f .price)) (sym (c .asking .ensures ∙ ap (asking true) (c .before .figures-at .ensures))) (held-small (c .before .before .before .args .mem .now) (c .before .before .before .args .group) (c .before .before .before .args .i) (c .before .before .before .pre)))
 
 cancel-number-requires : tie.Need-cancel-number-requires
 cancel-number-requires c κs = search needs
@@ -25,7 +24,7 @@ amend-requires : tie.Need-amend-requires
 amend-requires c κs = search needs
 
 returns : tie.Need-returns
-returns c = ?
+returns c = c .amend .ensures ∙ cancel-ruled (c .before .before .before .before .before .before .args .mem .now) (c .before .before .before .before .before .before .args .group) (c .before .before .before .before .before .before .args .i) (c .before .before .before .before .before .before .pre) _ (c .before .before .before .before .figures-at .ensures) _ _ _ (c .before .cancel-number .ensures) (c .before .before .before .asking .ensures) (c .before .before .tally-with .ensures)
 
 pub cancel-at-spec : {M : Type 1} → statement M
 cancel-at-spec =

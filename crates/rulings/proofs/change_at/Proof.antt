@@ -1,53 +1,58 @@
+-- `rulings::change_at` meets its contract: the tally with size and price as changed, and the first check that holds.
 use borrow.Author.Needs.{needs}
 use Rattle.rulings.proofs.change_at.Statement.{statement}
+use mathlib.Core.Path.{refl, sym, ap, _∙_, subst}
+use native.Mathlib.Omega.{arith}
+use Prim.Native.Nat.{_+_, _≤_}
+use Rattle.rulebook.specs.Kept.{Tally, metrics}
+use Rattle.rulings.specs.Standing.{held-bounds, changed-small, checkable}
+use Rattle.rulings.specs.Granting.{change-ruled}
+use Rattle.books.specs.Layout.{symbol-at}
+use Rattle.books.specs.Writing.{symbol-index}
+use Rattle.books.specs.View.{rows-of}
+use lib.ListN.{getD}
+use Rattle.fields.specs.Series.{side-of}
+use Rattle.books.specs.Layout.{side-at}
 use Rattle.rulings.proofs.change_at.Tie as tie
-use Rattle.rulings.proofs.change_at.Reads as reads
-use Rattle.rulings.proofs.change_at.Lts as lts
-use Rattle.checks.proofs.change_number.Reads as change-number-reads
-use Rattle.rulings.proofs.amend.Reads as amend-reads
-use Rattle.rulings.proofs.figures_at.Reads as figures-at-reads
-use Rattle.rulings.proofs.find_symbol.Reads as find-symbol-reads
-use Rattle.rulings.proofs.tally_with.Reads as tally-with-reads
-use Rattle.store.proofs.request_at.Reads as request-at-reads
 
 request-at-requires : tie.Need-request-at-requires
-request-at-requires c κs = ?
+request-at-requires c κs = let b = held-bounds (c .before .args .mem .now) (c .before .args .group) (c .before .args .i) (c .before .pre .0) in (b .counts, b .room)
 
 figures-at-requires : tie.Need-figures-at-requires
-figures-at-requires c κs = ?
+figures-at-requires c κs = let b = held-bounds (c .before .before .args .mem .now) (c .before .before .args .group) (c .before .before .args .i) (c .before .before .pre .0) in (b .counts, b .room)
 
 tally-with-requires : tie.Need-tally-with-requires
-tally-with-requires c κs = search needs
+tally-with-requires c κs = (c .before .before .before .pre .0, c .before .before .before .pre .1)
 
 add-find-symbol : tie.Need-add-find-symbol
-add-find-symbol c = ?
+add-find-symbol c = omega (arith, c .before .before .request-at .ensures, held-bounds (c .before .before .before .before .args .mem .now) (c .before .before .before .before .args .group) (c .before .before .before .before .args .i) (c .before .before .before .before .pre .0))
 
 mul-find-symbol : tie.Need-mul-find-symbol
-mul-find-symbol c = ?
+mul-find-symbol c = omega (arith, c .before .before .request-at .ensures, held-bounds (c .before .before .before .before .args .mem .now) (c .before .before .before .before .args .group) (c .before .before .before .before .args .i) (c .before .before .before .before .pre .0))
 
 shared-slice-read-find-symbol : tie.Need-shared-slice-read-find-symbol
-shared-slice-read-find-symbol c = ?
+shared-slice-read-find-symbol c = omega (arith, c .before .before .before .request-at .ensures, held-bounds (c .before .before .before .before .before .args .mem .now) (c .before .before .before .before .before .args .group) (c .before .before .before .before .before .args .i) (c .before .before .before .before .before .pre .0))
 
 find-symbol-requires : tie.Need-find-symbol-requires
-find-symbol-requires c κs = ?
+find-symbol-requires c κs = held-bounds (c .before .before .before .before .before .args .mem .now) (c .before .before .before .before .before .args .group) (c .before .before .before .before .before .args .i) (c .before .before .before .before .before .pre .0) .counts
 
 add-side : tie.Need-add-side
-add-side c = ?
+add-side c = omega (arith, c .before .before .before .before .request-at .ensures, held-bounds (c .before .before .before .before .before .before .args .mem .now) (c .before .before .before .before .before .before .args .group) (c .before .before .before .before .before .before .args .i) (c .before .before .before .before .before .before .pre .0))
 
 mul-side : tie.Need-mul-side
-mul-side c = ?
+mul-side c = omega (arith, c .before .before .before .before .request-at .ensures, held-bounds (c .before .before .before .before .before .before .args .mem .now) (c .before .before .before .before .before .before .args .group) (c .before .before .before .before .before .before .args .i) (c .before .before .before .before .before .before .pre .0))
 
 shared-slice-read-side : tie.Need-shared-slice-read-side
-shared-slice-read-side c = ?
+shared-slice-read-side c = omega (arith, c .before .before .before .before .before .request-at .ensures, held-bounds (c .before .before .before .before .before .before .before .args .mem .now) (c .before .before .before .before .before .before .before .args .group) (c .before .before .before .before .before .before .before .args .i) (c .before .before .before .before .before .before .before .pre .0))
 
 change-number-requires : tie.Need-change-number-requires
-change-number-requires c κs = ?
+change-number-requires c κs = checkable (c .before .before .before .before .before .before .before .args .mem .now) (c .before .before .before .before .before .before .before .pre .0 .valid) (c .before .before .before .before .before .before .before .args .group) _ _ _ (c .before .before .before .before .before .before .before .pre .0 .listed) (subst (λ (t : Tally). metrics t .gross-both ≤ 5_000_000_000_000_000_000) (sym (c .before .before .before .tally-with .ensures)) (changed-small (c .before .before .before .before .before .before .before .args .mem .now) (c .before .before .before .before .before .before .before .args .group) (c .before .before .before .before .before .before .before .args .i) (c .before .before .before .before .before .before .before .pre .0) _ (c .before .before .before .before .before .before .before .pre .1))) (c .before .before .before .before .before .before .before .pre .1 .cheap)
 
 amend-requires : tie.Need-amend-requires
 amend-requires c κs = search needs
 
 returns : tie.Need-returns
-returns c = ?
+returns c = c .amend .ensures ∙ change-ruled (c .before .before .before .before .before .before .before .before .before .args .mem .now) (c .before .before .before .before .before .before .before .before .before .args .group) (c .before .before .before .before .before .before .before .before .before .args .i) (c .before .before .before .before .before .before .before .before .before .pre .0) _ (c .before .before .before .before .before .before .figures-at .ensures) _ _ _ (getD (c .before .before .before .before .before .before .before .before .before .args .mem .now) (c .before .before .before .before .before .before .before .request-at .result + side-at) 0) (c .before .before .before .before .before .before .before .before .before .args .size) (c .before .before .before .before .before .before .before .before .before .args .price) (c .before .change-number .ensures) (c .before .before .before .find-symbol .ensures ∙ ap (λ b. symbol-index (rows-of (c .before .before .before .before .before .before .before .before .before .args .mem .now)) (getD (c .before .before .before .before .before .before .before .before .before .args .mem .now) (b + symbol-at) 0)) (c .before .before .before .before .before .before .before .request-at .ensures)) (ap (λ b. side-of (getD (c .before .before .before .before .before .before .before .before .before .args .mem .now) (b + side-at) 0)) (sym (c .before .before .before .before .before .before .before .request-at .ensures))) _ refl (c .before .before .before .before .before .tally-with .ensures)
 
 pub change-at-spec : {M : Type 1} → statement M
 change-at-spec =

@@ -1,24 +1,23 @@
+-- `rulings::deal_ruling` meets its contract, kind by kind.
 use borrow.Author.Needs.{needs}
 use Rattle.rulings.proofs.deal_ruling.Statement.{statement}
+use mathlib.Core.Path.{subst}
+use Rattle.laws.specs.Checks.{first}
+use Rattle.rulebook.specs.Judging.{deal-ruling}
+use Rattle.rulings.specs.Standing.{SmallDeal}
 use Rattle.rulings.proofs.deal_ruling.Tie as tie
-use Rattle.rulings.proofs.deal_ruling.Reads as reads
-use Rattle.rulings.proofs.deal_ruling.Lts as lts
-use Rattle.rulings.proofs.block_ruling.Reads as block-ruling-reads
-use Rattle.rulings.proofs.cancel_ruling.Reads as cancel-ruling-reads
-use Rattle.rulings.proofs.change_ruling.Reads as change-ruling-reads
-use Rattle.rulings.proofs.new_ruling.Reads as new-ruling-reads
 
 enum-known-deal : tie.Need-enum-known-deal
 enum-known-deal c = search needs
 
 new-ruling-requires : tie.Need-new-ruling-requires
-new-ruling-requires c κs = ?
+new-ruling-requires c κs = (c .before .before .before .before .pre .0, subst SmallDeal (c .before .deal .given .1) (c .before .before .before .before .pre .1))
 
 enum-known-deal-2 : tie.Need-enum-known-deal-2
 enum-known-deal-2 c = search needs
 
 change-ruling-requires : tie.Need-change-ruling-requires
-change-ruling-requires c κs = ?
+change-ruling-requires c κs = (c .before .before .before .before .pre .0, subst SmallDeal (c .before .deal2 .given .1) (c .before .before .before .before .pre .1))
 
 enum-known-deal-3 : tie.Need-enum-known-deal-3
 enum-known-deal-3 c = search needs
@@ -39,19 +38,24 @@ block-ruling-requires-2 : tie.Need-block-ruling-requires-2
 block-ruling-requires-2 c κs = search needs
 
 returns : tie.Need-returns
-returns c = ?
+unfolding deal-ruling
+returns c = rw (c .before .before .deal .given .1) (c .new-ruling .ensures)
 
 returns-2 : tie.Need-returns-2
-returns-2 c = ?
+unfolding deal-ruling
+returns-2 c = rw (c .before .before .deal2 .given .1) (c .change-ruling .ensures)
 
 returns-3 : tie.Need-returns-3
-returns-3 c = ?
+unfolding deal-ruling
+returns-3 c = rw (c .before .before .deal3 .given .1) (c .cancel-ruling .ensures)
 
 returns-4 : tie.Need-returns-4
-returns-4 c = ?
+unfolding deal-ruling first
+returns-4 c = rw (c .before .enum-told .given .1) (c .block-ruling .ensures)
 
 returns-5 : tie.Need-returns-5
-returns-5 c = ?
+unfolding deal-ruling first
+returns-5 c = rw (c .before .enum-told2 .given .1) (c .block-ruling2 .ensures)
 
 pub deal-ruling-spec : {M : Type 1} → statement M
 deal-ruling-spec =

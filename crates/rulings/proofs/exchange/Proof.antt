@@ -1,12 +1,9 @@
 -- `rulings::exchange` meets its contract: B alone is a buy.
 use borrow.Author.Needs.{needs}
 use Rattle.rulings.proofs.exchange.Statement.{statement}
-use mathlib.Core.Path.{_≡_, refl, sym, ap, _∙_}
-use mathlib.Core.Bool.{true, false}
+use mathlib.Core.Path.{refl, _∙_}
 use native.Mathlib.Omega.{arith}
 use borrow.Author.Tests.{eq-eqb, ne-eqb}
-use Rattle.rulebook.specs.Lines.{is-buy}
-use Rattle.fields.specs.Series.{side-of}
 use Rattle.books.specs.Refining.{buy-read}
 use Rattle.rulings.specs.Counting.{exchanged, part-bought, part-sold}
 use Rattle.rulings.proofs.exchange.Tie as tie

@@ -1,14 +1,16 @@
+-- `rulings::fill_ruling` meets its contract: 5 or 9 where the desk or the order is missing, and else as it stands.
 use borrow.Author.Needs.{needs}
 use Rattle.rulings.proofs.fill_ruling.Statement.{statement}
+use mathlib.Core.Path.{sym, ap, _∙_, subst}
+use Rattle.books.specs.View.{rows-of, view}
+use Rattle.store.specs.Finding.{named-by}
+use Rattle.rulebook.specs.Judging.{fill-ruling}
+use Rattle.rulings.specs.Granting.{hold-in-rows, spot-ruling, SpotHeld, spotted, spot-held}
+use Rattle.rulings.specs.Rulings.{ruling-in-rows}
 use Rattle.rulings.proofs.fill_ruling.Tie as tie
-use Rattle.rulings.proofs.fill_ruling.Reads as reads
-use Rattle.rulings.proofs.fill_ruling.Lts as lts
-use Rattle.rulings.proofs.fill_at.Reads as fill-at-reads
-use Rattle.rulings.proofs.find_target.Reads as find-target-reads
-use Rattle.rulings.proofs.hold.Reads as hold-reads
 
 find-target-requires : tie.Need-find-target-requires
-find-target-requires c κs = search needs
+find-target-requires c κs = c .before .pre .0
 
 enum-told : tie.Need-enum-told
 enum-told c = search needs
@@ -26,16 +28,16 @@ enum-known-group : tie.Need-enum-known-group
 enum-known-group c = search needs
 
 fill-at-requires : tie.Need-fill-at-requires
-fill-at-requires c κs = ?
+fill-at-requires c κs = (subst (SpotHeld (c .before .before .before .before .before .args .mem .now) (named-by (c .before .before .before .before .before .args .target))) (sym (c .before .before .before .find-target .ensures) ∙ c .before .group .given .1) (spot-held (c .before .before .before .before .before .args .mem .now) (named-by (c .before .before .before .before .before .args .target)) (c .before .before .before .before .before .pre .0)), c .before .before .before .before .before .pre .1)
 
 returns : tie.Need-returns
-returns c = ?
+returns c = c .hold .ensures ∙ hold-in-rows (rows-of (c .before .before .before .before .before .args .mem .now)) 5 ∙ (ap (ruling-in-rows (rows-of (c .before .before .before .before .before .args .mem .now))) (sym (spotted (c .before .before .before .before .before .args .mem .now) (named-by (c .before .before .before .before .before .args .target)) (fill-ruling (view (c .before .before .before .before .before .args .mem .now) .ledger .orders) (c .before .before .before .before .before .args .size) (c .before .before .before .before .before .args .price)) ∙ ap (spot-ruling (c .before .before .before .before .before .args .mem .now) (named-by (c .before .before .before .before .before .args .target)) (fill-ruling (view (c .before .before .before .before .before .args .mem .now) .ledger .orders) (c .before .before .before .before .before .args .size) (c .before .before .before .before .before .args .price))) (sym (c .before .before .before .find-target .ensures) ∙ c .before .enum-told .given .1))))
 
 returns-2 : tie.Need-returns-2
-returns-2 c = ?
+returns-2 c = c .hold2 .ensures ∙ hold-in-rows (rows-of (c .before .before .before .before .before .args .mem .now)) 9 ∙ (ap (ruling-in-rows (rows-of (c .before .before .before .before .before .args .mem .now))) (sym (spotted (c .before .before .before .before .before .args .mem .now) (named-by (c .before .before .before .before .before .args .target)) (fill-ruling (view (c .before .before .before .before .before .args .mem .now) .ledger .orders) (c .before .before .before .before .before .args .size) (c .before .before .before .before .before .args .price)) ∙ ap (spot-ruling (c .before .before .before .before .before .args .mem .now) (named-by (c .before .before .before .before .before .args .target)) (fill-ruling (view (c .before .before .before .before .before .args .mem .now) .ledger .orders) (c .before .before .before .before .before .args .size) (c .before .before .before .before .before .args .price))) (sym (c .before .before .before .find-target .ensures) ∙ c .before .enum-told2 .given .1))))
 
 returns-3 : tie.Need-returns-3
-returns-3 c = ?
+returns-3 c = c .fill-at .ensures ∙ (ap (ruling-in-rows (rows-of (c .before .before .before .before .before .before .args .mem .now))) (sym (spotted (c .before .before .before .before .before .before .args .mem .now) (named-by (c .before .before .before .before .before .before .args .target)) (fill-ruling (view (c .before .before .before .before .before .before .args .mem .now) .ledger .orders) (c .before .before .before .before .before .before .args .size) (c .before .before .before .before .before .before .args .price)) ∙ ap (spot-ruling (c .before .before .before .before .before .before .args .mem .now) (named-by (c .before .before .before .before .before .before .args .target)) (fill-ruling (view (c .before .before .before .before .before .before .args .mem .now) .ledger .orders) (c .before .before .before .before .before .before .args .size) (c .before .before .before .before .before .before .args .price))) (sym (c .before .before .before .before .find-target .ensures) ∙ c .before .before .group .given .1))))
 
 pub fill-ruling-spec : {M : Type 1} → statement M
 fill-ruling-spec =

@@ -1,11 +1,11 @@
 -- `rulings::find_order` meets its contract: only the place with the key may hold the order, and it does where it is a passed N.
 use borrow.Author.Needs.{needs}
 use Rattle.rulings.proofs.find_order.Statement.{statement}
-use mathlib.Core.Path.{_≡_, sym, ap, _∙_}
+use mathlib.Core.Path.{sym, ap, _∙_}
 use native.Mathlib.Omega.{arith}
 use Rattle.books.specs.View.{books-in}
 use Rattle.books.specs.Judged.{valid-counted}
-use Rattle.books.specs.Layout.{request-start, room-of}
+use Rattle.books.specs.Layout.{room-of}
 use Rattle.books.specs.View.{rows-of}
 use Rattle.rules.specs.Agreeing.{is-order-is}
 use Rattle.rules.specs.Passing.{is-order}

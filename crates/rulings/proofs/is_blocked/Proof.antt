@@ -1,9 +1,9 @@
+-- `rulings::is_blocked` meets its contract: the mark, or the first metric that is above its limit.
 use borrow.Author.Needs.{needs}
 use Rattle.rulings.proofs.is_blocked.Statement.{statement}
+use mathlib.Core.Path.{refl}
+use borrow.Author.Tests.{lt-ltb, le-ltb}
 use Rattle.rulings.proofs.is_blocked.Tie as tie
-use Rattle.rulings.proofs.is_blocked.Reads as reads
-use Rattle.rulings.proofs.is_blocked.Lts as lts
-use Rattle.checks.proofs.limit_number.Reads as limit-number-reads
 
 mul-if1 : tie.Need-mul-if1
 mul-if1 c = search needs
@@ -21,13 +21,13 @@ shared-slice-read-if1 : tie.Need-shared-slice-read-if1
 shared-slice-read-if1 c = search needs
 
 returns : tie.Need-returns
-returns c = ?
+returns c = rw (lt-ltb 0 _ (c .if1 .taken)) refl
 
 limit-number-requires : tie.Need-limit-number-requires
 limit-number-requires c κs = search needs
 
 returns-2 : tie.Need-returns-2
-returns-2 c = ?
+returns-2 c = rw (le-ltb 0 _ (c .before .if1 .left), c .limit-number .ensures) refl
 
 pub is-blocked-spec : {M : Type 1} → statement M
 is-blocked-spec =

@@ -1,38 +1,42 @@
+-- `rulings::new_ruling` meets its contract: the tally with the order, and the first check that holds.
 use borrow.Author.Needs.{needs}
 use Rattle.rulings.proofs.new_ruling.Statement.{statement}
+use mathlib.Core.Path.{sym, _∙_, subst}
+use native.Mathlib.Omega.{arith}
+use Prim.Native.Nat.{_≤_}
+use Rattle.books.specs.Judged.{valid-counted}
+use Rattle.rulebook.specs.Kept.{Tally, metrics}
+use Rattle.rulebook.specs.Lines.{ceiling, is-buy}
+use Rattle.fields.specs.Series.{side-of}
+use Rattle.rulings.specs.Standing.{Exchangeable, stored-within, new-exchangeable, checkable}
+use Rattle.rulings.specs.Counting.{exchanged, value-small, exchanged-small}
+use Rattle.rulings.specs.Granting.{new-held, new-granted}
+use Rattle.store.specs.Finding.{named-by}
 use Rattle.rulings.proofs.new_ruling.Tie as tie
-use Rattle.rulings.proofs.new_ruling.Reads as reads
-use Rattle.rulings.proofs.new_ruling.Lts as lts
-use Rattle.checks.proofs.new_number.Reads as new-number-reads
-use Rattle.rulings.proofs.exchange.Reads as exchange-reads
-use Rattle.rulings.proofs.find_symbol.Reads as find-symbol-reads
-use Rattle.rulings.proofs.hold.Reads as hold-reads
-use Rattle.rulings.proofs.tally_at.Reads as tally-at-reads
-use Rattle.rulings.proofs.value_of.Reads as value-of-reads
 
 value-of-requires : tie.Need-value-of-requires
 value-of-requires c κs = search needs
 
 tally-at-requires : tie.Need-tally-at-requires
-tally-at-requires c κs = ?
+tally-at-requires c κs = let n = valid-counted (c .before .before .args .mem .now) (c .before .before .pre .0 .valid) in (n, omega (arith, n, c .before .before .pre .0 .listed))
 
 exchange-requires : tie.Need-exchange-requires
-exchange-requires c κs = ?
+exchange-requires c κs = subst (λ (t : Tally). Exchangeable (is-buy (side-of (c .before .before .before .args .side))) 0 (c .before .value-of .result) t) (sym (c .tally-at .ensures)) (new-exchangeable (c .before .before .before .args .mem .now) (c .before .before .before .pre .0 .valid) (c .before .before .before .args .group) (c .before .before .before .pre .0 .listed) _ _ (rw (c .before .value-of .ensures) (value-small (c .before .before .before .args .size) 0 (c .before .before .before .args .price) (c .before .before .before .pre .1 .small) (c .before .before .before .pre .1 .cheap))))
 
 find-symbol-requires : tie.Need-find-symbol-requires
-find-symbol-requires c κs = ?
+find-symbol-requires c κs = valid-counted (c .before .before .before .before .args .mem .now) (c .before .before .before .before .pre .0 .valid)
 
 new-number-requires : tie.Need-new-number-requires
-new-number-requires c κs = ?
+new-number-requires c κs = checkable (c .before .before .before .before .before .args .mem .now) (c .before .before .before .before .before .pre .0 .valid) (c .before .before .before .before .before .args .group) _ _ _ (c .before .before .before .before .before .pre .0 .listed) (subst (λ (t : Tally). metrics t .gross-both ≤ 5_000_000_000_000_000_000) (sym (c .before .exchange .ensures)) (exchanged-small _ _ _ _ (rw (c .before .before .before .value-of .ensures) (value-small (c .before .before .before .before .before .args .size) 0 (c .before .before .before .before .before .args .price) (c .before .before .before .before .before .pre .1 .small) (c .before .before .before .before .before .pre .1 .cheap))) (subst (λ (t : Tally). metrics t .gross-both ≤ ceiling) (sym (c .before .before .tally-at .ensures)) (stored-within (c .before .before .before .before .before .args .mem .now) (c .before .before .before .before .before .pre .0 .valid) (c .before .before .before .before .before .args .group) (c .before .before .before .before .before .pre .0 .listed))))) (c .before .before .before .before .before .pre .1 .cheap)
 
 hold-requires : tie.Need-hold-requires
 hold-requires c κs = search needs
 
 returns : tie.Need-returns
-returns c = ?
+returns c = c .hold .ensures ∙ new-held (c .before .before .before .before .before .before .before .before .args .mem .now) (named-by (c .before .before .before .before .before .before .before .before .args .key)) (c .before .before .before .before .before .before .before .before .args .group) (c .before .before .before .before .before .before .before .before .pre .0) _ _ _ (c .before .before .before .before .before .before .before .before .args .sym) (c .before .before .before .before .before .before .before .before .args .side) (c .before .before .before .before .before .before .before .before .args .size) (c .before .before .before .before .before .before .before .before .args .price) (c .before .before .new-number .ensures) (c .before .before .before .find-symbol .ensures) (c .before .before .before .before .exchange .ensures ∙ (λ j. exchanged (is-buy (side-of (c .before .before .before .before .before .before .before .before .args .side))) 0 (c .before .before .before .before .before .before .value-of .ensures j) (c .before .before .before .before .before .tally-at .ensures j))) (c .before .if1 .taken)
 
 returns-2 : tie.Need-returns-2
-returns-2 c = ?
+returns-2 c = new-granted (c .before .before .before .before .before .before .before .args .mem .now) (named-by (c .before .before .before .before .before .before .before .args .key)) (c .before .before .before .before .before .before .before .args .group) (c .before .before .before .before .before .before .before .pre .0) _ _ _ (c .before .before .before .before .before .before .before .args .sym) (c .before .before .before .before .before .before .before .args .side) (c .before .before .before .before .before .before .before .args .size) (c .before .before .before .before .before .before .before .args .price) (c .before .new-number .ensures) (c .before .before .find-symbol .ensures) (c .before .before .before .exchange .ensures ∙ (λ j. exchanged (is-buy (side-of (c .before .before .before .before .before .before .before .args .side))) 0 (c .before .before .before .before .before .value-of .ensures j) (c .before .before .before .before .tally-at .ensures j))) (c .if1 .left)
 
 pub new-ruling-spec : {M : Type 1} → statement M
 new-ruling-spec =

@@ -1,12 +1,8 @@
 -- `rulings::pay` meets its contract: B alone is a buy.
 use borrow.Author.Needs.{needs}
 use Rattle.rulings.proofs.pay.Statement.{statement}
-use mathlib.Core.Path.{_≡_, refl, sym, ap, _∙_}
-use mathlib.Core.Bool.{true, false}
-use native.Mathlib.Omega.{arith}
+use mathlib.Core.Path.{refl, _∙_}
 use borrow.Author.Tests.{eq-eqb, ne-eqb}
-use Rattle.rulebook.specs.Lines.{is-buy}
-use Rattle.fields.specs.Series.{side-of}
 use Rattle.books.specs.Refining.{buy-read}
 use Rattle.rulings.specs.Counting.{paid}
 use Rattle.rulings.proofs.pay.Tie as tie

@@ -1,13 +1,13 @@
+-- `rulings::quote_ruling` meets its contract: 8 where the symbol is not among those listed.
 use borrow.Author.Needs.{needs}
 use Rattle.rulings.proofs.quote_ruling.Statement.{statement}
+use mathlib.Core.Path.{sym, _∙_}
+use Rattle.books.specs.Judged.{valid-counted}
+use Rattle.rulings.specs.Granting.{quote-held, quote-granted}
 use Rattle.rulings.proofs.quote_ruling.Tie as tie
-use Rattle.rulings.proofs.quote_ruling.Reads as reads
-use Rattle.rulings.proofs.quote_ruling.Lts as lts
-use Rattle.rulings.proofs.find_symbol.Reads as find-symbol-reads
-use Rattle.rulings.proofs.hold.Reads as hold-reads
 
 find-symbol-requires : tie.Need-find-symbol-requires
-find-symbol-requires c κs = ?
+find-symbol-requires c κs = valid-counted (c .before .args .mem .now) (c .before .pre)
 
 shared-slice-read-if1 : tie.Need-shared-slice-read-if1
 shared-slice-read-if1 c = search needs
@@ -16,10 +16,10 @@ hold-requires : tie.Need-hold-requires
 hold-requires c κs = search needs
 
 returns : tie.Need-returns
-returns c = ?
+returns c = c .hold .ensures ∙ quote-held (c .before .before .before .before .before .args .mem .now) _ (c .before .before .before .before .before .args .sym) (c .before .before .before .before .before .args .bid) (c .before .before .before .before .before .args .offer) (c .before .before .before .find-symbol .ensures) (c .before .if1 .taken)
 
 returns-2 : tie.Need-returns-2
-returns-2 c = ?
+returns-2 c = quote-granted (c .before .before .before .before .args .mem .now) _ (c .before .before .before .before .args .sym) (c .before .before .before .before .args .bid) (c .before .before .before .before .args .offer) (c .before .before .find-symbol .ensures) (c .if1 .left)
 
 pub quote-ruling-spec : {M : Type 1} → statement M
 quote-ruling-spec =

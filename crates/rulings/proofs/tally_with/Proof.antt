@@ -1,43 +1,48 @@
+-- `rulings::tally_with` meets its contract: the order's part of the stored totals is exchanged.
 use borrow.Author.Needs.{needs}
 use Rattle.rulings.proofs.tally_with.Statement.{statement}
+use mathlib.Core.Path.{sym, ap, _∙_, subst}
+use Prim.Native.Nat.{_+_}
+use native.Mathlib.Omega.{arith}
+use Rattle.rulebook.specs.Kept.{Figures, Tally}
+use Rattle.rulings.specs.Standing.{Small, Exchangeable, held-bounds, held-small, held-exchangeable, held-tally}
+use Rattle.rulings.specs.Counting.{value-said, exchanged, value-small}
+use Rattle.checks.specs.Saying.{figures-said}
+use lib.ListN.{getD}
+use Rattle.rulebook.specs.Lines.{is-buy}
+use Rattle.fields.specs.Series.{side-of}
+use Rattle.books.specs.Layout.{side-at}
 use Rattle.rulings.proofs.tally_with.Tie as tie
-use Rattle.rulings.proofs.tally_with.Reads as reads
-use Rattle.rulings.proofs.tally_with.Lts as lts
-use Rattle.rulings.proofs.exchange.Reads as exchange-reads
-use Rattle.rulings.proofs.figures_at.Reads as figures-at-reads
-use Rattle.rulings.proofs.tally_at.Reads as tally-at-reads
-use Rattle.rulings.proofs.value_of.Reads as value-of-reads
-use Rattle.store.proofs.request_at.Reads as request-at-reads
 
 request-at-requires : tie.Need-request-at-requires
-request-at-requires c κs = ?
+request-at-requires c κs = let b = held-bounds (c .before .args .mem .now) (c .before .args .group) (c .before .args .i) (c .before .pre .0) in (b .counts, b .room)
 
 add-side : tie.Need-add-side
-add-side c = ?
+add-side c = omega (arith, c .request-at .ensures, held-bounds (c .before .before .args .mem .now) (c .before .before .args .group) (c .before .before .args .i) (c .before .before .pre .0))
 
 mul-side : tie.Need-mul-side
-mul-side c = ?
+mul-side c = omega (arith, c .request-at .ensures, held-bounds (c .before .before .args .mem .now) (c .before .before .args .group) (c .before .before .args .i) (c .before .before .pre .0))
 
 shared-slice-read-side : tie.Need-shared-slice-read-side
-shared-slice-read-side c = ?
+shared-slice-read-side c = omega (arith, c .before .request-at .ensures, held-bounds (c .before .before .before .args .mem .now) (c .before .before .before .args .group) (c .before .before .before .args .i) (c .before .before .before .pre .0))
 
 figures-at-requires : tie.Need-figures-at-requires
-figures-at-requires c κs = ?
+figures-at-requires c κs = let b = held-bounds (c .before .before .before .args .mem .now) (c .before .before .before .args .group) (c .before .before .before .args .i) (c .before .before .before .pre .0) in (b .counts, b .room)
 
 value-of-requires : tie.Need-value-of-requires
-value-of-requires c κs = ?
+value-of-requires c κs = subst (λ (f : Figures). Small (f .size) (f .price)) (sym (c .figures-at .ensures)) (held-small (c .before .before .before .before .args .mem .now) (c .before .before .before .before .args .group) (c .before .before .before .before .args .i) (c .before .before .before .before .pre .0))
 
 value-of-requires-2 : tie.Need-value-of-requires-2
 value-of-requires-2 c κs = search needs
 
 tally-at-requires : tie.Need-tally-at-requires
-tally-at-requires c κs = ?
+tally-at-requires c κs = let b = held-bounds (c .before .before .before .before .before .before .args .mem .now) (c .before .before .before .before .before .before .args .group) (c .before .before .before .before .before .before .args .i) (c .before .before .before .before .before .before .pre .0) in (b .counts, b .few)
 
 exchange-requires : tie.Need-exchange-requires
-exchange-requires c κs = ?
+exchange-requires c κs = subst (λ (t : Tally). Exchangeable (is-buy (side-of (getD (c .before .before .before .before .before .before .before .args .mem .now) (c .before .before .before .before .before .request-at .result + side-at) 0))) (c .before .before .value-of .result) (c .before .value-of2 .result) t) (sym (c .tally-at .ensures)) (rw (c .before .before .before .before .before .request-at .ensures, (c .before .before .value-of .ensures ∙ ap value-said (c .before .before .before .figures-at .ensures)), c .before .value-of2 .ensures) (held-exchangeable (c .before .before .before .before .before .before .before .args .mem .now) (c .before .before .before .before .before .before .before .args .group) (c .before .before .before .before .before .before .before .args .i) (c .before .before .before .before .before .before .before .pre .0) _ (value-small (c .before .before .before .before .before .before .before .args .new .size) (c .before .before .before .before .before .before .before .args .new .done) (c .before .before .before .before .before .before .before .args .new .price) (c .before .before .before .before .before .before .before .pre .1 .small) (c .before .before .before .before .before .before .before .pre .1 .cheap))))
 
 returns : tie.Need-returns
-returns c = ?
+returns c = c .exchange .ensures ∙ (λ j. exchanged (is-buy (side-of (getD (c .before .before .before .before .before .before .before .before .args .mem .now) (c .before .before .before .before .before .before .request-at .ensures j + side-at) 0))) ((c .before .before .before .value-of .ensures ∙ ap value-said (c .before .before .before .before .figures-at .ensures)) j) (c .before .before .value-of2 .ensures j) (c .before .tally-at .ensures j)) ∙ held-tally (c .before .before .before .before .before .before .before .before .args .mem .now) (c .before .before .before .before .before .before .before .before .args .group) (c .before .before .before .before .before .before .before .before .args .i) (c .before .before .before .before .before .before .before .before .pre .0) (figures-said (c .before .before .before .before .before .before .before .before .args .new))
 
 pub tally-with-spec : {M : Type 1} → statement M
 tally-with-spec =
