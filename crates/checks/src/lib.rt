@@ -11,7 +11,8 @@ ghost use Rattle.books.specs.View.{flag, group-of, rows-of};
 ghost use Rattle.books.specs.Refining.{Counted};
 ghost use Rattle.checks.specs.Saying.{figures-said, tally-said, order-said, symbol-at};
 ghost use Rattle.checks.specs.Trying.{Measurable, Quotable, Checkable, new-figures, order-with, is-over, off-quotes, is-barred, price-checks};
-ghost use Rattle.checks.specs.Protection.{table, row-at, row-said, terms, Quoted};
+ghost use Rattle.checks.specs.Protection.{table, row-at, row-said, terms};
+ghost use Rattle.checks.specs.Beyond.{Quoted};
 
 // An order's figures; done is filled plus reduced, and `asked` is whether its cancel was asked for.
 pub struct Figures {
@@ -44,6 +45,7 @@ struct Row {
     dollars: u64,
 }
 
+// The table of price protection. Its bounds ascend, and the last is above every price.
 const ROWS: [Row; 6] = [
     Row {
         bound: 1_000_000,
@@ -312,13 +314,13 @@ pub fn change_number(
 }
 
 // What a C is tried by: 9 where the target is not open, 17 where its cancel was asked for, else 0.
-pub fn cancel_number(f: Figures) -> u64
-    ensures { λ r. ⌜ r ≡ first (cancel-checks (order-with f)) ⌝ }
+pub fn cancel_number(target: Figures) -> u64
+    ensures { λ r. ⌜ r ≡ first (cancel-checks (order-with target)) ⌝ }
 {
-    if f.size <= f.done {
+    if target.size <= target.done {
         return 9;
     }
-    if f.asked {
+    if target.asked {
         return 17;
     }
     0

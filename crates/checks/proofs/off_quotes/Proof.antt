@@ -1,7 +1,7 @@
 -- `checks::off_quotes` meets its contract: the row is not listed, or its quotes are the symbol's.
 use borrow.Author.Needs.{needs}
 use borrow.Author.Tests.{lt-ltb, le-ltb}
-use Rattle.checks.specs.Protection.{none-quoted}
+use Rattle.checks.specs.Beyond.{none-quoted}
 use Rattle.checks.proofs.off_quotes.Statement.{statement}
 use Rattle.checks.proofs.off_quotes.Tie as tie
 

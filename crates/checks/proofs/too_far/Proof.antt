@@ -3,7 +3,7 @@ use borrow.Author.Needs.{needs}
 use native.Mathlib.Omega.{arith}
 use native.Mathlib.Nat.{mul-le-mul}
 use Rattle.rulebook.specs.Prices.{rows, row-in}
-use Rattle.checks.specs.Protection.{terms-small, none-known, within-percent, by-dollars}
+use Rattle.checks.specs.Beyond.{terms-small, none-known, within-percent, by-dollars}
 use Rattle.checks.proofs.too_far.Statement.{statement}
 use Rattle.checks.proofs.too_far.Tie as tie
 
