@@ -233,6 +233,11 @@ module _ (l : List Shape) where
   shown m S [] long a h = h
   shown m S (s ∷ ss) long a h = shown (put-store s m) (patched s S) ss (rw (length-sets m (cell (region l (s .at)) (s .line) (s .from)) (s .words)) long) (a .1) (stored m S s long (a .0) h)
 
+  -- stores after stores
+  pub run-append : (ss rest : List Store) (m : List ℕ) → run (ss ++ rest) m ≡ run rest (run ss m)
+  run-append [] rest m = refl
+  run-append (s ∷ ss) rest m = run-append ss rest (put-store s m)
+
   pub length-run : (ss : List Store) (m : List ℕ) → length (run ss m) ≡ length m
   length-run [] m = refl
   length-run (s ∷ ss) m = length-run ss (put-store s m) ∙ length-sets m (cell (region l (s .at)) (s .line) (s .from)) (s .words)
