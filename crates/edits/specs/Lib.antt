@@ -1,2 +1,3 @@
 pub mod InRows
 pub mod Storing
+pub mod Parts

@@ -1,0 +1,27 @@
+-- Stores made in two parts: what each part needs follows from what the whole needs, and the second runs on the words that the first leaves.
+use mathlib.Core.Path.{_≡_, sym, ap, _∙_, subst}
+use mathlib.Core.List.{List, [], _∷_, _++_}
+use Prim.Native.Nat.{ℕ, _≤_}
+use lib.ListN.{length}
+use Rattle.laws.specs.Tables.{All}
+use Rattle.laws.specs.Rows.{Store, extent, Fit, run, run-append, length-run}
+use Rattle.books.specs.Layout.{layout}
+use Rattle.edits.specs.Storing.{Storable}
+
+all-parts : {A : Type 0} (P : A → Type 0) (xs ys : List A) → All P (xs ++ ys) → All P xs × All P ys
+all-parts P [] ys a = (tt, a)
+all-parts P (x ∷ xs) ys a = let b = all-parts P xs ys (a .1) in ((a .0, b .0), b .1)
+
+module _ {room : ℕ} {m : List ℕ} (ss rest : List Store) where
+  pub first-storable : Storable room m (ss ++ rest) → Storable room m ss
+  first-storable s = record { few = s .few; long = s .long; fit = all-parts (Fit (layout room)) ss rest (s .fit) .0 }
+
+  pub rest-storable : {after : List ℕ} → after ≡ run (layout room) ss m → Storable room m (ss ++ rest) → Storable room after rest
+  rest-storable e s = record {
+    few = s .few;
+    long = subst (λ (n : ℕ). extent (layout room) ≤ n) (sym (ap length e ∙ length-run (layout room) ss m)) (s .long);
+    fit = all-parts (Fit (layout room)) ss rest (s .fit) .1;
+  }
+
+pub ran-both : (room : ℕ) (m : List ℕ) (ss rest : List Store) {after last : List ℕ} → after ≡ run (layout room) ss m → last ≡ run (layout room) rest after → last ≡ run (layout room) (ss ++ rest) m
+ran-both room m ss rest e q = q ∙ ap (run (layout room) rest) e ∙ sym (run-append (layout room) ss rest m)
