@@ -1,6 +1,5 @@
 -- `edits::put_deed` meets its contract: three calls, one after the other, by the counts read before them.
 use borrow.Author.Needs.{needs}
-use mathlib.Core.List.{_++_}
 use Rattle.edits.specs.Storing.{order-stored, group-stored, symbol-stored, deed-stored}
 use Rattle.edits.specs.Parts.{first-storable, rest-storable, ran-both}
 use Rattle.edits.proofs.put_deed.Statement.{statement}
@@ -29,7 +28,7 @@ same-length c = search needs
 
 returns : tie.Need-returns
 unfolding deed-stored
-returns c = let r = c .before .before .before .before .before .before .before .before .before .before .before .before .before .before .before .args .room in let m = c .before .before .before .before .before .before .before .before .before .before .before .before .before .before .before .args .mem .now in ran-both r m (order-stored _) (group-stored _ _ ++ symbol-stored _ _) (c .before .before .before .before .before .before .before .before .before .before .put-order .ensures) (ran-both r _ (group-stored _ _) (symbol-stored _ _) (c .before .before .before .before .before .before .put-group .ensures) (c .before .before .put-symbol .ensures))
+returns c = let r = c .before .before .before .before .before .before .before .before .before .before .before .before .before .before .before .args .room in let m = c .before .before .before .before .before .before .before .before .before .before .before .before .before .before .before .args .mem .now in ran-both r m (order-stored _) _ (c .before .before .before .before .before .before .before .before .before .before .put-order .ensures) (ran-both r _ (group-stored _ _) (symbol-stored _ _) (c .before .before .before .before .before .before .put-group .ensures) (c .before .before .put-symbol .ensures))
 
 pub put-deed-spec : {M : Type 1} → statement M
 put-deed-spec =

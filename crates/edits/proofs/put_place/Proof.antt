@@ -1,13 +1,9 @@
 -- `edits::put_place` meets its contract: what was asked, the figures, and the count, one after the other.
 use borrow.Author.Needs.{needs}
-use mathlib.Core.List.{[], _∷_, _++_}
-use Prim.Native.Nat.{suc}
 use native.Mathlib.Omega.{arith}
-use native.Mathlib.Numerals.{add-one}
 use Rattle.books.specs.Layout.{places-at}
-use Rattle.books.specs.Writing.{head-store}
 use Rattle.edits.specs.Storing.{asked-stored, figures-stored, place-stored}
-use Rattle.edits.specs.Parts.{first-storable, rest-storable, ran-both}
+use Rattle.edits.specs.Parts.{first-storable, rest-storable, ran-both, ran-raised}
 use Rattle.edits.proofs.put_place.Statement.{statement}
 use Rattle.edits.proofs.put_place.Tie as tie
 
@@ -35,9 +31,7 @@ same-length c = search needs
 returns : tie.Need-returns
 unfolding place-stored
 returns c = let a = c .before .before .before .before .before .before .before .before .before .before .before .before .before .before .args in
-    let n = head-store places-at (suc (a .place)) ∷ [] in
-    ran-both (a .room) (a .mem .now) (asked-stored _ _ _ _) (figures-stored _ _ ++ n) (c .before .before .before .before .before .before .before .before .before .before .before .put-asked .ensures)
-    (ran-both (a .room) _ (figures-stored _ _) n (c .before .before .before .before .before .before .before .put-figures .ensures) (rw add-one at (c .before .before .put-row .ensures)))
+    ran-both (a .room) (a .mem .now) (asked-stored _ _ _ _) _ (c .before .before .before .before .before .before .before .before .before .before .before .put-asked .ensures) (ran-raised (a .room) _ (figures-stored _ _) places-at (a .place) (c .before .before .before .before .before .before .before .put-figures .ensures) (c .before .before .put-row .ensures))
 
 pub put-place-spec : {M : Type 1} → statement M
 put-place-spec =

@@ -1,14 +1,10 @@
 -- `edits::write_edit` meets its contract: each arm is given its edit, and its stores are those of one call or of two, one after the other.
 use borrow.Author.Needs.{needs}
 use mathlib.Core.Path.{refl}
-use mathlib.Core.List.{[], _∷_}
-use Prim.Native.Nat.{suc}
-use native.Mathlib.Numerals.{add-one}
 use Rattle.books.specs.Layout.{room-of, last-at}
 use Rattle.books.specs.View.{head-in, rows-of}
-use Rattle.books.specs.Writing.{head-store}
 use Rattle.edits.specs.Storing.{deed-stored, place-stored, edit-stored}
-use Rattle.edits.specs.Parts.{first-storable, rest-storable, ran-both}
+use Rattle.edits.specs.Parts.{first-storable, rest-storable, ran-both, ran-raised}
 use Rattle.edits.proofs.write_edit.Statement.{statement}
 use Rattle.edits.proofs.write_edit.Tie as tie
 
@@ -102,7 +98,7 @@ same-length-4 c = search needs
 returns-5 : tie.Need-returns-5
 unfolding edit-stored
 returns-5 c = let m = c .before .before .before .before .before .before .before .before .before .before .before .before .before .before .before .args .mem .now in
-    rw (c .before .before .before .before .before .before .before .before .before .before .before .edit3 .given .1) (ran-both (room-of m) m (deed-stored _ _) (head-store last-at (suc (head-in (rows-of m) last-at)) ∷ []) (rw (c .before .before .before .before .before .before .before .before .before .before .before .before .before .room .ensures) at (c .before .before .before .before .before .before .before .put-deed3 .ensures)) (rw add-one at (c .before .before .put-row2 .ensures)))
+    rw (c .before .before .before .before .before .before .before .before .before .before .before .edit3 .given .1) (ran-raised (room-of m) m (deed-stored _ _) last-at (head-in (rows-of m) last-at) (rw (c .before .before .before .before .before .before .before .before .before .before .before .before .before .room .ensures) at (c .before .before .before .before .before .before .before .put-deed3 .ensures)) (c .before .before .put-row2 .ensures))
 
 pub write-edit-spec : {M : Type 1} → statement M
 write-edit-spec =
