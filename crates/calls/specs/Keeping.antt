@@ -1,16 +1,14 @@
 -- What the public calls keep, and what they write.
-use mathlib.Core.Path.{_≡_, refl, sym, ap, _∙_, subst}
-use mathlib.Core.Bool.{Bool, true, false, cond, false≢true}
+use mathlib.Core.Path.{_≡_, refl, ap, _∙_}
+use mathlib.Core.Bool.{true, false, cond}
 use mathlib.Core.Option.{Option, none, some, Option·elim}
 use mathlib.Core.List.{List}
 use Prim.Native.Nat.{ℕ, _≤_, _<_}
-use native.Mathlib.Omega.{arith}
 use lib.Dec.{ltb}
 use lib.ListN.{length, replicate, getElem?}
-use borrow.Author.Tests.{le-ltb}
+use borrow.Author.Tests.{lt-ltb, le-ltb}
 use Rattle.laws.specs.Tests.{on}
 use Rattle.rulebook.specs.Kept.{Group, tally}
-use Rattle.rulebook.specs.Judging.{judge}
 use Rattle.rulebook.specs.Outcomes.{answer-line, closing-line}
 use Rattle.rulebook.specs.Day.{step}
 use Rattle.fields.specs.Forms.{IsLine}
@@ -18,16 +16,73 @@ use Rattle.codec.specs.Lines.{read-formed}
 use Rattle.answers.specs.Lines.{gate-answer, gate-closing}
 use Rattle.books.specs.Layout.{least-words}
 use Rattle.books.specs.View.{view}
-use Rattle.books.specs.Rules.{Valid}
+use Rattle.books.specs.Writing.{write}
 use Rattle.books.specs.Judged.{judged}
 use Rattle.books.specs.Kept.{kept}
 use Rattle.store.specs.Making.{made-words, fresh-valid}
 use Rattle.rules.specs.Testing.{state-ok}
 use Rattle.rules.specs.Meaning.{exactly}
-use Rattle.calls.specs.Calling.{said-by, verdict-on, answer-to, begun, Recorded, recorded, Closing, closing-of, closed}
+use Rattle.calls.specs.Calling.{said-by, verdict-on, answer-to, begun, Recorded, recorded, closing-of, closed}
 use Rattle.calls.specs.declared.Answered.{Answered}
 use Rattle.calls.specs.declared.Closed.{Closed}
 
--- a record whose buffer has 32 bytes, over a memory that meets the state rules
-pub judged-after : (m l b : List ℕ) → 32 ≤ length b → state-ok m ≡ true →
-    recorded m l b ≡ record { said = Answered.Line (length (answer-to m l)); memory = _; buffer = begun (answer-to m l) b }
+-- ── one record ──
+module _ (m l b : List ℕ) where
+  -- "21 to 23 are returned and write nothing"
+  pub short-buffer : length b < 32 → recorded m l b ≡ record { said = Answered.ShortBuffer; memory = m; buffer = b }
+  unfolding recorded
+  short-buffer h = rw (lt-ltb (length b) 32 h) refl
+
+  pub bad-state : 32 ≤ length b → state-ok m ≡ false → recorded m l b ≡ record { said = Answered.BadState; memory = m; buffer = b }
+  unfolding recorded
+  bad-state h e = rw (le-ltb (length b) 32 h, e) refl
+
+  -- and else the record is judged
+  pub judged-line : 32 ≤ length b → state-ok m ≡ true → recorded m l b ≡ record { said = Answered.Line (length (answer-to m l)); memory = write (verdict-on m l .edit) m; buffer = begun (answer-to m l) b }
+  unfolding recorded
+  judged-line h e = rw (le-ltb (length b) 32 h, e) refl
+
+abbrev judged-part : List ℕ → List ℕ → List ℕ → Recorded
+judged-part m l b = record { said = Answered.Line (length (answer-to m l)); memory = write (verdict-on m l .edit) m; buffer = begun (answer-to m l) b }
+
+-- THEOREM. A record leaves a state that meets the state rules, so 22 never follows from the gate's own work
+pub state-kept : (m l b : List ℕ) → state-ok m ≡ true → state-ok (recorded m l b .memory) ≡ true
+unfolding recorded
+state-kept m l b e = on (λ t. state-ok (cond t (record { said = Answered.ShortBuffer; memory = m; buffer = b }) (cond (state-ok m) (judged-part m l b) (record { said = Answered.BadState; memory = m; buffer = b })) .memory) ≡ true) (ltb (length b) 32)
+    (λ q. e) (λ q. rw e (exactly (write (verdict-on m l .edit) m) .1 (kept m (exactly m .0 e) (said-by l) (read-formed l))))
+
+-- and a fresh state meets them
+pub fresh-state : (m : List ℕ) → least-words ≤ length m → state-ok (made-words m) ≡ true
+unfolding made-words
+fresh-state m h = rw (le-ltb (length m) least-words h) (exactly (replicate (length m) 0) .1 (fresh-valid (length m) h))
+
+-- THEOREM. The words after a record say the books after it
+pub books-after : (m l b : List ℕ) → 32 ≤ length b → state-ok m ≡ true → view (recorded m l b .memory) ≡ step (view m) (said-by l)
+books-after m l b h e = ap (λ (r : Recorded). view (r .memory)) (judged-line m l b h e) ∙ judged m (exactly m .0 e) (said-by l)
+
+-- THEOREM. What is written is the rulebook's answer line, and has at most 32 bytes
+pub answer-written : (m l : List ℕ) → state-ok m ≡ true → IsLine (answer-line (said-by l) (verdict-on m l .answer)) (answer-to m l) × (length (answer-to m l) ≤ 32)
+answer-written m l e = gate-answer (view m) l (exactly m .0 e .sound)
+
+-- ── a closing line ──
+module _ (m : List ℕ) (i : ℕ) (b : List ℕ) where
+  pub closing-short-buffer : length b < 96 → closed m i b ≡ record { said = Closed.ShortBuffer; buffer = b }
+  unfolding closed
+  closing-short-buffer h = rw (lt-ltb (length b) 96 h) refl
+
+  pub closing-bad-state : 96 ≤ length b → state-ok m ≡ false → closed m i b ≡ record { said = Closed.BadState; buffer = b }
+  unfolding closed
+  closing-bad-state h e = rw (le-ltb (length b) 96 h, e) refl
+
+  -- "then 5 if no group has that place, which here writes nothing"
+  pub closing-unlisted : 96 ≤ length b → state-ok m ≡ true → getElem? (view m .ledger .groups) i ≡ none → closed m i b ≡ record { said = Closed.Unlisted; buffer = b }
+  unfolding closed Option·elim
+  closing-unlisted h e q = rw (le-ltb (length b) 96 h, e, q) refl
+
+  pub closing-line-of : (g : Group) → 96 ≤ length b → state-ok m ≡ true → getElem? (view m .ledger .groups) i ≡ some g → closed m i b ≡ record { said = Closed.Line (length (closing-of m g)); buffer = begun (closing-of m g) b }
+  unfolding closed Option·elim
+  closing-line-of g h e q = rw (le-ltb (length b) 96 h, e, q) refl
+
+-- THEOREM. What is written is the rulebook's closing line, and has at most 96 bytes
+pub closing-written : (m : List ℕ) (i : ℕ) (g : Group) → state-ok m ≡ true → getElem? (view m .ledger .groups) i ≡ some g → IsLine (closing-line g (tally g (view m .ledger .orders))) (closing-of m g) × (length (closing-of m g) ≤ 96)
+closing-written m i g e q = gate-closing (view m) i g (exactly m .0 e .sound) q
