@@ -52,17 +52,23 @@ pub record Recorded : Type 0 where
   pub memory : List ℕ
   pub buffer : List ℕ
 
+abbrev pub record-left : Answered → List ℕ → List ℕ → Recorded
+record-left r m b = record { said = r; memory = m; buffer = b }
+
 -- "A record: 21, 22", which change nothing; then memory after is the verdict's edit written, and the buffer begins with its answer line
 unfoldable pub recorded : List ℕ → List ℕ → List ℕ → Recorded
 recorded m l b =
-    cond (ltb (length b) 32) (record { said = Answered.ShortBuffer; memory = m; buffer = b })
-    (cond (state-ok m) (record { said = Answered.Line (length (answer-to m l)); memory = write (verdict-on m l .edit) m; buffer = begun (answer-to m l) b })
-    (record { said = Answered.BadState; memory = m; buffer = b }))
+    cond (ltb (length b) 32) (record-left Answered.ShortBuffer m b)
+    (cond (state-ok m) (record-left (Answered.Line (length (answer-to m l))) (write (verdict-on m l .edit) m) (begun (answer-to m l) b))
+    (record-left Answered.BadState m b))
 
 -- ── a closing line ──
 pub record Closing : Type 0 where
   pub said : Closed
   pub buffer : List ℕ
+
+abbrev pub closing-left : Closed → List ℕ → Closing
+closing-left r b = record { said = r; buffer = b }
 
 -- the bytes of a group's closing line
 abbrev pub closing-of : List ℕ → Group → List ℕ
@@ -71,6 +77,6 @@ closing-of m g = let t = tally g (view m .ledger .orders) in closing-bytes (g .m
 -- "21, 22, then 5 if no group has that place, which here writes nothing; it changes no state"
 unfoldable pub closed : List ℕ → ℕ → List ℕ → Closing
 closed m i b =
-    cond (ltb (length b) 96) (record { said = Closed.ShortBuffer; buffer = b })
-    (cond (state-ok m) (Option·elim (getElem? (view m .ledger .groups) i) (record { said = Closed.Unlisted; buffer = b }) (λ g. record { said = Closed.Line (length (closing-of m g)); buffer = begun (closing-of m g) b }))
-    (record { said = Closed.BadState; buffer = b }))
+    cond (ltb (length b) 96) (closing-left Closed.ShortBuffer b)
+    (cond (state-ok m) (Option·elim (getElem? (view m .ledger .groups) i) (closing-left Closed.Unlisted b) (λ g. closing-left (Closed.Line (length (closing-of m g))) (begun (closing-of m g) b)))
+    (closing-left Closed.BadState b))

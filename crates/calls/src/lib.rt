@@ -1,4 +1,17 @@
 // The public calls. Each does its own checking, and is stated for every memory, every line and every buffer.
+ghost use mathlib.Core.Path.{_≡_};
+ghost use Prim.Native.Nat.{_≤_};
+ghost use lib.ListN.{length};
+ghost use Rattle.answers.specs.Answering.{answer-bytes, closing-bytes};
+ghost use Rattle.calls.specs.Calling.{begun, closing-left, closed};
+use codec::Reading;
+use fields::Written;
+use store::Closing;
+
+// The least bytes of a buffer for an answer line, and for a closing line.
+const ANSWER: usize = 32;
+
+const CLOSING: usize = 96;
 
 // What a record is answered: the bytes of its answer line; or that the buffer is too short (21), or that the lent state breaks a rule (22).
 pub enum Answered {
@@ -13,4 +26,75 @@ pub enum Closed {
     ShortBuffer,
     BadState,
     Unlisted,
+}
+
+// Writes an answer line, which has room.
+fn put_answer(
+    line: &[u8],
+    rec: Reading,
+    outcome: u8,
+    number: u64,
+    sent: u64,
+    to: &mut [u8],
+) -> Answered
+    requires { ⌜ (length (answer-bytes (now line) rec outcome number sent) ≤ 32) × (32 ≤ length (now to)) ⌝ }
+    ensures answer { λ r. ⌜ r ≡ Answered.Line (length (answer-bytes (now (line .entry)) rec outcome number sent)) ⌝ }
+    ensures buffer { λ _. ⌜ now (to .exit) ≡ begun (answer-bytes (now (line .entry)) rec outcome number sent) (now (to .entry)) ⌝ }
+{
+    match answers::write_answer(line, rec, outcome, number, sent, to) {
+        Written::Bytes(count) => Answered::Line(count),
+        Written::NoRoom => Answered::ShortBuffer,
+    }
+}
+
+// Writes a closing line, which has room.
+fn put_closing(
+    mpid: u64,
+    tb: u64,
+    ts: u64,
+    ob: u64,
+    os: u64,
+    blocked: bool,
+    to: &mut [u8],
+) -> Closed
+    requires { ⌜ (length (closing-bytes mpid tb ts ob os blocked) ≤ 96) × (96 ≤ length (now to)) ⌝ }
+    ensures answer { λ r. ⌜ r ≡ Closed.Line (length (closing-bytes mpid tb ts ob os blocked)) ⌝ }
+    ensures buffer { λ _. ⌜ now (to .exit) ≡ begun (closing-bytes mpid tb ts ob os blocked) (now (to .entry)) ⌝ }
+{
+    match answers::write_closing(mpid, tb, ts, ob, os, blocked, to) {
+        Written::Bytes(count) => Closed::Line(count),
+        Written::NoRoom => Closed::ShortBuffer,
+    }
+}
+
+// The closing line of the group at a place in listing order, from 0: 21 where the buffer has fewer than 96 bytes, 22 where the words break a
+// state rule, 5 where no group has the place, and nothing is written. Else it stands at the buffer's start.
+pub fn closing(mem: &[u64], place: usize, to: &mut [u8]) -> Closed
+    ensures { λ r. ⌜ closing-left r (now (to .exit)) ≡ closed (now (mem .entry)) place (now (to .entry)) ⌝ }
+{
+    if to.len() < CLOSING {
+        return Closed::ShortBuffer;
+    }
+    if !state::state_ok(mem) {
+        return Closed::BadState;
+    }
+    match store::closing_totals(mem, place) {
+        Closing::Totals {
+            mpid,
+            traded_buys,
+            traded_sells,
+            open_buys,
+            open_sells,
+            blocked,
+        } => put_closing(
+            mpid,
+            traded_buys,
+            traded_sells,
+            open_buys,
+            open_sells,
+            blocked,
+            to,
+        ),
+        Closing::Unlisted => Closed::Unlisted,
+    }
 }
