@@ -3,7 +3,7 @@ ghost use mathlib.Core.Path.{_≡_};
 ghost use Prim.Native.Nat.{_≤_};
 ghost use lib.ListN.{length};
 ghost use Rattle.answers.specs.Answering.{answer-bytes, closing-bytes};
-ghost use Rattle.calls.specs.Calling.{begun, closing-left, closed};
+ghost use Rattle.calls.specs.Calling.{begun, record-left, recorded, closing-left, closed};
 use codec::Reading;
 use fields::Written;
 use store::Closing;
@@ -45,6 +45,23 @@ fn put_answer(
         Written::Bytes(count) => Answered::Line(count),
         Written::NoRoom => Answered::ShortBuffer,
     }
+}
+
+// One record, lent as its line: 21 where the buffer has fewer than 32 bytes, 22 where the words break a state rule, and nothing is written.
+// Else the line is judged, what it changes is stored, and its answer line stands at the buffer's start.
+pub fn record(mem: &mut [u64], line: &[u8], to: &mut [u8]) -> Answered
+    ensures { λ r. ⌜ record-left r (now (mem .exit)) (now (to .exit)) ≡ recorded (now (mem .entry)) (now (line .entry)) (now (to .entry)) ⌝ }
+{
+    if to.len() < ANSWER {
+        return Answered::ShortBuffer;
+    }
+    if !state::state_ok(mem) {
+        return Answered::BadState;
+    }
+    let rec = codec::read(line);
+    let verdict = judge::judge(mem, line, rec);
+    edits::write_edit(mem, verdict.edit);
+    put_answer(line, rec, verdict.outcome, verdict.number, verdict.sent, to)
 }
 
 // Writes a closing line, which has room.

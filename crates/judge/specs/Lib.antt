@@ -1,0 +1,4 @@
+pub mod Verdicts
+pub mod Comparing
+pub mod Doors
+pub mod Kinds
