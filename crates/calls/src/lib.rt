@@ -60,7 +60,8 @@ pub fn record(mem: &mut [u64], line: &[u8], to: &mut [u8]) -> Answered
     }
     let rec = codec::read(line);
     let verdict = judge::judge(mem, line, rec);
-    edits::write_edit(mem, verdict.edit);
+    let edit = verdict.edit;
+    edits::write_edit(mem, edit);
     put_answer(line, rec, verdict.outcome, verdict.number, verdict.sent, to)
 }
 

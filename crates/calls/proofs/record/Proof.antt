@@ -1,0 +1,63 @@
+-- `calls::record` meets its contract: 21 and 22 write nothing; else the verdict's edit is stored, and its answer line has room.
+use borrow.Author.Needs.{needs}
+use Rattle.calls.proofs.record.Statement.{statement}
+use mathlib.Core.Path.{sym, _∙_, subst}
+use borrow.Author.Tests.{not-true, not-false}
+use lib.ListN.{length}
+use Rattle.codec.specs.Lines.{InForm, read-in-form}
+use Rattle.rules.specs.Meaning.{exactly}
+use Rattle.edits.specs.Storing.{valid-last}
+use Rattle.calls.specs.Keeping.{short-buffer, bad-state, judged-line}
+use Rattle.calls.specs.Recording.{edit-storable, edit-written, answer-told, answer-short}
+use Rattle.calls.specs.Calling.{begun, record-left}
+use Rattle.calls.specs.declared.Answered.{Answered}
+use Rattle.calls.proofs.record.Tie as tie
+
+returns : tie.Need-returns
+returns c = sym (short-buffer _ _ _ (c .if1 .taken))
+
+state-ok-requires : tie.Need-state-ok-requires
+state-ok-requires c κs = search needs
+
+same-length : tie.Need-same-length
+same-length c = search needs
+
+returns-2 : tie.Need-returns-2
+returns-2 c = sym (bad-state _ _ _ (c .before .before .before .if1 .left) (sym (c .before .state-ok .ensures) ∙ not-true _ (c .if2 .taken)))
+
+read-requires : tie.Need-read-requires
+read-requires c κs = search needs
+
+judge-requires : tie.Need-judge-requires
+judge-requires c κs = (exactly (c .before .before .before .before .before .before .before .before .before .args .mem .now) .0 (sym (c .before .before .before .state-ok .ensures) ∙ not-false _ (c .before .before .if2 .left)), subst (InForm (c .before .before .before .before .before .before .before .before .before .args .line .now)) (sym (c .before .read .ensures)) (read-in-form (c .before .before .before .before .before .before .before .before .before .args .line .now)))
+
+write-edit-requires : tie.Need-write-edit-requires
+write-edit-requires c κs = (edit-storable (c .before .before .before .before .before .before .before .before .before .before .before .args .mem .now) (c .before .before .before .before .before .before .before .before .before .before .before .args .line .now) (sym (c .before .before .before .before .before .state-ok .ensures) ∙ not-false _ (c .before .before .before .before .if2 .left)) _ (c .before .before .before .read .ensures) _ (c .before .judge .ensures), valid-last (c .before .before .before .before .before .before .before .before .before .before .before .args .mem .now) (exactly (c .before .before .before .before .before .before .before .before .before .before .before .args .mem .now) .0 (sym (c .before .before .before .before .before .state-ok .ensures) ∙ not-false _ (c .before .before .before .before .if2 .left))))
+
+put-answer-requires : tie.Need-put-answer-requires
+put-answer-requires c κs = (answer-short (c .before .before .before .before .before .before .before .before .before .before .before .before .before .before .before .args .mem .now) (c .before .before .before .before .before .before .before .before .before .before .before .before .before .before .before .args .line .now) (sym (c .before .before .before .before .before .before .before .before .before .state-ok .ensures) ∙ not-false _ (c .before .before .before .before .before .before .before .before .if2 .left)) _ (c .before .before .before .before .before .before .before .read .ensures) _ (c .before .before .before .before .before .judge .ensures), c .before .before .before .before .before .before .before .before .before .before .before .if1 .left)
+
+same-length-2 : tie.Need-same-length-2
+same-length-2 c = search needs
+
+same-length-3 : tie.Need-same-length-3
+same-length-3 c = search needs
+
+returns-3 : tie.Need-returns-3
+returns-3 c = (λ j. record-left (c .before .before .put-answer .ensures .0 j) (c .before .before .before .before .before .before .write-edit .ensures j) (c .before .before .put-answer .ensures .1 j)) ∙ (λ j. record-left (Answered.Line (length (answer-told (c .before .before .before .before .before .before .before .before .before .before .before .before .before .before .before .before .before .before .args .mem .now) (c .before .before .before .before .before .before .before .before .before .before .before .before .before .before .before .before .before .before .args .line .now) (sym (c .before .before .before .before .before .before .before .before .before .before .before .before .state-ok .ensures) ∙ not-false _ (c .before .before .before .before .before .before .before .before .before .before .before .if2 .left)) _ (c .before .before .before .before .before .before .before .before .before .before .read .ensures) _ (c .before .before .before .before .before .before .before .before .judge .ensures) j))) (edit-written (c .before .before .before .before .before .before .before .before .before .before .before .before .before .before .before .before .before .before .args .mem .now) (c .before .before .before .before .before .before .before .before .before .before .before .before .before .before .before .before .before .before .args .line .now) (sym (c .before .before .before .before .before .before .before .before .before .before .before .before .state-ok .ensures) ∙ not-false _ (c .before .before .before .before .before .before .before .before .before .before .before .if2 .left)) _ (c .before .before .before .before .before .before .before .before .before .before .read .ensures) _ (c .before .before .before .before .before .before .before .before .judge .ensures) j) (begun (answer-told (c .before .before .before .before .before .before .before .before .before .before .before .before .before .before .before .before .before .before .args .mem .now) (c .before .before .before .before .before .before .before .before .before .before .before .before .before .before .before .before .before .before .args .line .now) (sym (c .before .before .before .before .before .before .before .before .before .before .before .before .state-ok .ensures) ∙ not-false _ (c .before .before .before .before .before .before .before .before .before .before .before .if2 .left)) _ (c .before .before .before .before .before .before .before .before .before .before .read .ensures) _ (c .before .before .before .before .before .before .before .before .judge .ensures) j) (c .before .before .before .before .before .before .before .before .before .before .before .before .before .before .before .before .before .before .args .to .now))) ∙ sym (judged-line (c .before .before .before .before .before .before .before .before .before .before .before .before .before .before .before .before .before .before .args .mem .now) (c .before .before .before .before .before .before .before .before .before .before .before .before .before .before .before .before .before .before .args .line .now) (c .before .before .before .before .before .before .before .before .before .before .before .before .before .before .before .before .before .before .args .to .now) (c .before .before .before .before .before .before .before .before .before .before .before .before .before .before .if1 .left) (sym (c .before .before .before .before .before .before .before .before .before .before .before .before .state-ok .ensures) ∙ not-false _ (c .before .before .before .before .before .before .before .before .before .before .before .if2 .left)))
+
+pub record-spec : {M : Type 1} → statement M
+record-spec =
+    tie.close
+    (tie.spec
+    returns
+    state-ok-requires
+    same-length
+    returns-2
+    read-requires
+    judge-requires
+    write-edit-requires
+    put-answer-requires
+    same-length-2
+    same-length-3
+    returns-3)
