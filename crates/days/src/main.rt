@@ -1,7 +1,7 @@
 // Runs whole days through the public calls, and compares what they answer with what is expected.
 //
 // A day is two files: its lines, and the answer lines and closing lines that they are to get. Each has fewer than 65,536 bytes. For each day a
-// line says how many lines were met, or which is the first that was not, and then that line as it was said and as it was expected.
+// line says how many lines came as expected, or which is the first that did not, with what was said and what was expected.
 ghost use Prim.Native.Nat.{_+_, _≤_, max};
 ghost use lib.ListN.{length};
 use calls::Answered;
@@ -19,7 +19,7 @@ const ANSWER: usize = 32;
 
 const CLOSING: usize = 96;
 
-// How far what is expected was met: up to a place, after so many lines; or that a line was not.
+// How far what is said is what is expected: up to a place, after so many lines; or that a line differs.
 enum Met {
     UpTo(usize, u64),
     Not,
@@ -61,14 +61,15 @@ fn line_or_rest(text: &[u8], at: usize) -> &[u8]
 // Compares a line that is said with the next that is expected. Where they differ, both are said.
 fn meet(expected: &[u8], at: usize, number: u64, said: &[u8]) -> Met {
     let line = line_or_rest(expected, at);
+    let next = std::num::wrapping_add_u64(number, 1);
     if check::same(said, line) {
-        return Met::UpTo(at + line.len(), std::num::wrapping_add_u64(number, 1));
+        return Met::UpTo(at + line.len(), next);
     }
-    say(b"after ");
-    io::print_decimal(STDOUT_FILENO, number);
-    say(b" lines said\n");
+    say(b"line ");
+    io::print_decimal(STDOUT_FILENO, next);
+    say(b" differs, said:\n");
     say(said);
-    say(b"and expected\n");
+    say(b"expected:\n");
     say(line);
     Met::Not
 }
