@@ -1,8 +1,11 @@
 // Calls the public calls on what a host may lend them: buffers that are too short or just long enough, memories that are no state, places that
 // no group has. Every lent byte and word is set before each call and compared after it.
 //
-// For each call a line says what was called, whether the bytes of the buffer past the answer line are as they were (every byte, where no line is
-// written), whether every word of the memory is, and what was answered: the line, or the number that writes none; 0 for a fresh state.
+// For each call a line says what was called, with how many words and bytes; whether the bytes of the buffer past the answer line are as they were
+// (every byte, where no line is written); whether every word of the memory is; and what was answered: the line, or the number that writes none, 0
+// for a fresh state.
+ghost use mathlib.Core.Path.{_≡_};
+ghost use lib.ListN.{length};
 use calls::Answered;
 use calls::Closed;
 use libc::STDOUT_FILENO;
@@ -28,6 +31,13 @@ fn say(text: &[u8]) {
     io::write_all(STDOUT_FILENO, text);
 }
 
+// A memory of which every word is the one named.
+fn filled(word: u64) -> [u64; WORDS]
+    ensures { λ r. ⌜ 1686 ≡ length r ⌝ }
+{
+    [word; WORDS]
+}
+
 // Whether every byte from a place on is as it was before.
 fn bytes_kept(buffer: &[u8; BYTES], from: usize) -> bool {
     let mut i = from;
@@ -51,11 +61,24 @@ fn words_kept(before: &[u64; WORDS], after: &[u64; WORDS]) -> bool {
     true
 }
 
+fn say_number(number: usize) {
+    io::print_decimal(STDOUT_FILENO, number as u64);
+}
+
+// Says what a call was lent.
+fn say_lent(words: usize, room: usize) {
+    say(b", ");
+    say_number(words);
+    say(b" words, ");
+    say_number(room);
+    say(b" bytes: ");
+}
+
 fn say_kept(kept: bool) {
     if kept {
-        say(b"kept\t");
+        say(b"kept, ");
     } else {
-        say(b"changed\t");
+        say(b"changed, ");
     }
 }
 
@@ -70,7 +93,7 @@ fn say_answer(said: Said, buffer: &[u8; BYTES]) {
     }
 }
 
-// The end of what a call wrote to its buffer.
+// Where what a call wrote to its buffer ends.
 fn end_of(said: Said) -> usize {
     match said {
         Said::Line(end) => end,
@@ -78,15 +101,8 @@ fn end_of(said: Said) -> usize {
     }
 }
 
-fn report(
-    what: &[u8],
-    said: Said,
-    buffer: &[u8; BYTES],
-    before: &[u64; WORDS],
-    after: &[u64; WORDS],
-) {
-    say(what);
-    say(b"\tbytes ");
+fn report(said: Said, buffer: &[u8; BYTES], before: &[u64; WORDS], after: &[u64; WORDS]) {
+    say(b"bytes ");
     say_kept(bytes_kept(buffer, end_of(said)));
     say(b"words ");
     say_kept(words_kept(before, after));
@@ -135,129 +151,135 @@ fn fresh_within(mem: &mut [u64], words: usize) -> Said {
     }
 }
 
-fn try_record(what: &[u8], mem: &mut [u64; WORDS], words: usize, line: &[u8], room: usize) {
+fn try_record(mem: &mut [u64; WORDS], words: usize, room: usize, line: &[u8]) {
     let before = *mem;
     let mut buffer = [DOT; BYTES];
     let said = record_within(mem, words, line, &mut buffer, room);
-    report(what, said, &buffer, &before, mem);
+    say(b"record");
+    say_lent(words, room);
+    report(said, &buffer, &before, mem);
 }
 
-fn try_closing(what: &[u8], mem: &[u64; WORDS], words: usize, place: usize, room: usize) {
+fn try_closing(mem: &[u64; WORDS], words: usize, room: usize, place: usize) {
     let before = *mem;
     let mut buffer = [DOT; BYTES];
     let said = closing_within(mem, words, place, &mut buffer, room);
-    report(what, said, &buffer, &before, mem);
+    say(b"closing ");
+    say_number(place);
+    say_lent(words, room);
+    report(said, &buffer, &before, mem);
 }
 
-fn try_fresh(what: &[u8], words: usize) {
-    let mut mem = [GARBAGE; WORDS];
+fn try_fresh(words: usize) {
+    let mut mem = filled(GARBAGE);
     let before = mem;
     let said = fresh_within(&mut mem, words);
-    report(what, said, &[DOT; BYTES], &before, &mem);
+    say(b"fresh");
+    say_lent(words, 0);
+    report(said, &[DOT; BYTES], &before, &mem);
 }
 
 // Making a fresh state, in memories too short for groups and symbols (23), and in one that is just long enough.
 fn try_fresh_states() {
-    try_fresh(b"fresh, no word", 0);
-    try_fresh(b"fresh, one word too short", books::LEAST_WORDS - 1);
-    try_fresh(b"fresh, just long enough", books::LEAST_WORDS);
+    try_fresh(0);
+    try_fresh(books::LEAST_WORDS - 1);
+    try_fresh(books::LEAST_WORDS);
 }
 
-// Memories that are no state (22), where a buffer that is too short is found first (21).
-fn try_bad_memories() {
-    let mut garbage = [GARBAGE; WORDS];
-    try_record(
-        b"record, garbage, 31 bytes",
-        &mut garbage,
-        WORDS,
-        b"O\n",
-        31,
-    );
-    try_record(
-        b"record, garbage, 32 bytes",
-        &mut garbage,
-        WORDS,
-        b"O\n",
-        32,
-    );
-    try_closing(b"closing, garbage, 95 bytes", &garbage, WORDS, 0, 95);
-    try_closing(b"closing, garbage, 96 bytes", &garbage, WORDS, 0, 96);
-    let mut short = [0u64; WORDS];
+// A memory that is no state (22), where a buffer that is too short is found first (21).
+fn try_garbage() {
+    say(b"garbage\n");
+    let mut mem = filled(GARBAGE);
+    try_record(&mut mem, WORDS, 31, b"O\n");
+    try_record(&mut mem, WORDS, 32, b"O\n");
+    try_closing(&mem, WORDS, 95, 0);
+    try_closing(&mem, WORDS, 96, 0);
+}
+
+// Memories that are too short for groups and symbols (22).
+fn try_short_memories() {
+    say(b"too short for groups and symbols\n");
     let words = books::LEAST_WORDS - 1;
-    try_record(b"record, one word too short", &mut short, words, b"O\n", 32);
-    try_closing(b"closing, one word too short", &short, words, 0, 96);
-    try_record(b"record, no word", &mut short, 0, b"O\n", 32);
+    let mut mem = filled(0);
+    try_record(&mut mem, 0, 32, b"O\n");
+    try_record(&mut mem, words, 32, b"O\n");
+    try_closing(&mem, words, 96, 0);
 }
 
-// Buffers that are too short (21), just long enough and longer.
+// A fresh state: a place that no group has yet (5), buffers that are too short for an answer line (21), and one that is just long enough.
 fn try_buffers(mem: &mut [u64; WORDS]) {
-    let group =
-        b"G\tABCD\t4000000000000000000\t4000000000000000000\t4000000000000000000\t4000000000000000000\t4000000000000000000\t4000000000000000000\t100\tN\n";
-    try_closing(b"closing 0, no group, 96 bytes", mem, WORDS, 0, 96);
-    try_record(b"record, no byte", mem, WORDS, group, 0);
-    try_record(b"record, 31 bytes", mem, WORDS, group, 31);
-    try_record(b"record, 32 bytes", mem, WORDS, group, 32);
-    try_closing(b"closing 0, 95 bytes", mem, WORDS, 0, 95);
-    try_closing(b"closing 0, 96 bytes", mem, WORDS, 0, 96);
-    try_closing(b"closing 0, 128 bytes", mem, WORDS, 0, 128);
+    say(b"a fresh state\n");
+    let group = b"G\tABCD\t100\t100\t100\t100\t100\t100\t100\tN\n";
+    try_closing(mem, WORDS, 96, 0);
+    try_record(mem, WORDS, 0, group);
+    try_record(mem, WORDS, 31, group);
+    try_record(mem, WORDS, 32, group);
 }
 
-// Places that no group has (5).
-fn try_places(mem: &[u64; WORDS]) {
-    try_closing(b"closing 1", mem, WORDS, 1, 96);
-    try_closing(b"closing 64", mem, WORDS, 64, 96);
-    try_closing(b"closing at the largest number", mem, WORDS, usize::MAX, 96);
+// A buffer that is too short for a closing line (21), one that is just long enough and a longer one; and places that no group has (5).
+fn try_closings(mem: &[u64; WORDS]) {
+    say(b"one group\n");
+    try_closing(mem, WORDS, 95, 0);
+    try_closing(mem, WORDS, 96, 0);
+    try_closing(mem, WORDS, BYTES, 0);
+    try_closing(mem, WORDS, 96, 1);
+    try_closing(mem, WORDS, 96, 64);
+    try_closing(mem, WORDS, 96, usize::MAX);
 }
 
-// Judges a record with 32 bytes for its answer.
-fn try_line(what: &[u8], mem: &mut [u64; WORDS], line: &[u8]) {
-    try_record(what, mem, WORDS, line, 32);
+// Judges the lines of a text, each with 32 bytes for its answer.
+fn try_lines(mem: &mut [u64; WORDS], text: &[u8]) {
+    let mut at = 0;
+    loop {
+        let line = lines::line_at(text, at);
+        if line.len() == 0 {
+            break;
+        }
+        try_record(mem, WORDS, 32, line);
+        at += line.len();
+    }
 }
 
-// Before O: refusals with no effect, and what opens the day.
+// Before O: a group that is listed (3), a request (2), a line that ends in CR, one without LF and no byte at all (1) have no effect.
 fn try_setup(mem: &mut [u64; WORDS]) {
-    try_line(
-        b"group, listed already",
+    try_lines(
         mem,
-        b"G\tABCD\t1\t1\t1\t1\t1\t1\t100\tN\n",
+        b"G\tABCD\t1\t1\t1\t1\t1\t1\t100\tN\nN\tT1\tABCD\t7\tB\t1\t100\nO\r\n",
     );
-    try_line(b"request before O", mem, b"N\tT1\tABCD\t7\tB\t1\t100\n");
-    try_line(b"line without LF", mem, b"S\t7");
-    try_line(b"no byte", mem, b"");
-    try_line(b"symbol", mem, b"S\t7\n");
-    try_line(b"open", mem, b"O\n");
-    try_line(
-        b"group after O",
+    try_record(mem, WORDS, 32, b"O");
+    try_record(mem, WORDS, 32, b"");
+    try_lines(mem, b"S\t7\nO\n");
+}
+
+// After O: a symbol (2), a request of no group (5), one that is repeated, one that differs (6) and one without a place (7) have no effect.
+fn try_requests(mem: &mut [u64; WORDS]) {
+    say(b"opened\n");
+    try_lines(mem, b"S\t8\nN\tT1\tWXYZ\t7\tB\t1\t100\n");
+    try_lines(
         mem,
-        b"G\tWXYZ\t4000000000000000000\t4000000000000000000\t4000000000000000000\t4000000000000000000\t4000000000000000000\t4000000000000000000\t100\tN\n",
+        b"N\tT1\tABCD\t7\tB\t1\t100\nN\tT1\tABCD\t7\tB\t1\t100\n",
+    );
+    try_lines(
+        mem,
+        b"N\tT1\tABCD\t7\tB\t2\t100\nN\tT2\tABCD\t7\tB\t1\t100\n",
     );
 }
 
-// After O: a request and a notice that count, and what then has no effect.
-fn try_requests(mem: &mut [u64; WORDS]) {
-    try_line(b"request of no group", mem, b"N\tT1\tWXYZ\t7\tB\t1\t100\n");
-    try_line(b"request", mem, b"N\tT1\tABCD\t7\tB\t1\t100\n");
-    try_line(b"request again", mem, b"N\tT1\tABCD\t7\tB\t1\t100\n");
-    try_line(b"request that differs", mem, b"N\tT1\tABCD\t7\tB\t2\t100\n");
-    try_line(
-        b"request without a place",
-        mem,
-        b"N\tT2\tABCD\t7\tB\t1\t100\n",
-    );
-    try_line(b"notice too far ahead", mem, b"Q\t2\t7\t0\t0\n");
-    try_line(b"notice", mem, b"Q\t1\t7\t0\t0\n");
-    try_line(b"notice again", mem, b"Q\t1\t7\t0\t0\n");
-    try_line(b"line that ends in CR", mem, b"S\t7\r\n");
+// A notice whose number is above last + 1 (18) and one that was seen have no effect.
+fn try_notices(mem: &mut [u64; WORDS]) {
+    try_lines(mem, b"Q\t2\t7\t0\t0\nQ\t1\t7\t0\t0\nQ\t1\t7\t0\t0\n");
+    try_closing(mem, WORDS, 96, 0);
 }
 
 fn main() {
     try_fresh_states();
-    try_bad_memories();
-    let mut mem = [GARBAGE; WORDS];
+    try_garbage();
+    try_short_memories();
+    let mut mem = filled(GARBAGE);
     store::make_fresh(&mut mem);
     try_buffers(&mut mem);
-    try_places(&mem);
+    try_closings(&mem);
     try_setup(&mut mem);
     try_requests(&mut mem);
-    try_closing(b"closing 0 of an opened day", &mem, WORDS, 0, 96);
+    try_notices(&mut mem);
 }

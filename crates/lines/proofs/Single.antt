@@ -10,7 +10,7 @@ use Rattle.lines.proofs.keep_rest.Kinds as keep-rest-kinds
 use Rattle.lines.proofs.keep_rest.Reads as keep-rest-reads
 
 line-at-once : Once 1 line-at-kinds.ps line-at-kinds.r line-at-reads.Post (λ κs x s. now x)
-line-at-once κs a x y s t p q = p ∙ sym q
+line-at-once κs a x y s t p q = p .0 ∙ sym (q .0)
 
 lent-once : Once 1 lent-kinds.ps lent-kinds.r lent-reads.Post (λ κs x s. now x)
 lent-once κs a x y s t p q = p ∙ sym q

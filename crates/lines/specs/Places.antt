@@ -3,7 +3,7 @@ use mathlib.Core.Path.{_≡_, refl, sym, ap, subst, _∙_}
 use mathlib.Core.Bool.{false}
 use mathlib.Core.Logic.{_⊎_, inl, inr, ⊎-elim}
 use mathlib.Core.List.{List, [], _∷_, _++_, append-nil, append-assoc}
-use Prim.Native.Nat.{ℕ, suc, _+_, _-_, _≤_, _<_}
+use Prim.Native.Nat.{ℕ, suc, _+_, _-_, _≤_, _<_, max}
 use native.Mathlib.Numerals.{add-one}
 use native.Mathlib.Omega.{arith}
 use lib.Dec.{eqb}
@@ -86,7 +86,6 @@ no-line u z = ⊎-elim (λ w. w) (λ w. absurd (omega (arith, first-is u (w .0) 
 
 -- ── a program that goes from line to line by their places passes every line, and stops before what is held ──
 pub record Step (t : List ℕ) (at : ℕ) : Type 0 where
-  pub within : at + length (line-at t at) ≤ length t
   pub line : whole [] (drop at t) ≡ line-at t at ∷ whole [] (drop (at + length (line-at t at)) t)
   pub after : rest [] (drop at t) ≡ rest [] (drop (at + length (line-at t at)) t)
 
@@ -94,9 +93,7 @@ pub step-on : (t : List ℕ) (at : ℕ) → 1 ≤ length (line-at t at) → Step
 unfolding line-at
 step-on t at h =
     let w = first-line (drop at t) h in
-    let n = length (first (whole [] (drop at t))) in
     record {
-      within = omega (arith, w .within, length-drop at t);
       line = w .line ∙ rw (sym (ap first (w .line)), drop-drop);
       after = w .after ∙ rw drop-drop;
     }
@@ -113,3 +110,12 @@ line-stretch t at =
     let n = length (first (whole [] u)) in
     let m : at + n - at ≡ n = omega arith in
     ⊎-elim (λ w. rw (m, w .0)) (λ w. rw (m, first-is u (w .0) (w .1)) (sym (ap first (w .1 .line)))) (next-line [] u)
+
+-- and ends in the text
+pub line-within : (t : List ℕ) (at : ℕ) → at + length (line-at t at) ≤ max at (length t)
+unfolding line-at
+line-within t at =
+    let u = drop at t in
+    ⊎-elim (λ w. omega (arith, ap (λ ls. length (first ls)) (w .0)))
+    (λ w. omega (arith, first-is u (w .0) (w .1), w .1 .some-bytes, w .1 .within, length-drop at t))
+    (next-line [] u)

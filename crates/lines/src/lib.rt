@@ -1,7 +1,7 @@
 // The splitting of an input into lines, a block at a time. A line that lies in a block is a part of it, never a copy; only what follows a
 // block's last LF is moved, to the front, where the next block is read after it.
 ghost use mathlib.Core.Path.{_≡_};
-ghost use Prim.Native.Nat.{_+_};
+ghost use Prim.Native.Nat.{_+_, _≤_, max};
 ghost use lib.ListN.{length};
 ghost use Rattle.fields.specs.Parts.{stretch};
 ghost use Rattle.lines.specs.Splitting.{lent, line-at, to-front};
@@ -26,7 +26,8 @@ fn line_end(text: &[u8], at: usize) -> usize
 
 // The line that starts at a place, up to and with its LF, a part of the text; an empty part where no LF follows.
 pub fn line_at(text: &[u8], at: usize) -> &[u8]
-    ensures { λ r. ⌜ now r ≡ line-at (now (text .entry)) at ⌝ }
+    ensures line { λ r. ⌜ now r ≡ line-at (now (text .entry)) at ⌝ }
+    ensures within { λ r. ⌜ at + length (now r) ≤ max at (length (now (text .entry))) ⌝ }
 {
     let to = line_end(text, at);
     fields::part(text, Place { from: at, to })

@@ -4,7 +4,6 @@ use native.Mathlib.Omega.{arith}
 use borrow.Author.Needs.{needs}
 use lib.ListN.{length, length-take, length-drop}
 use Rattle.fields.specs.Parts.{stretch}
-use Rattle.lines.specs.Places.{step-on}
 use Rattle.days.proofs.line_or_rest.Statement.{statement}
 use Rattle.days.proofs.line_or_rest.Tie as tie
 
@@ -12,9 +11,7 @@ line-at-requires : tie.Need-line-at-requires
 line-at-requires c κs = search needs
 
 returns : tie.Need-returns
-returns c =
-    let n = ap length (c .before .line-at .ensures) in
-    omega (arith, n, step-on (c .before .before .before .args .text .now) (c .before .before .before .args .at) (omega (arith, n)) .within)
+returns c = search needs
 
 part-requires : tie.Need-part-requires
 part-requires c κs = search needs

@@ -47,20 +47,15 @@ add-at : tie.Need-add-at Inv-loop μ-loop
 add-at c = search needs
 
 loop-less : tie.Need-loop-less Inv-loop μ-loop
-loop-less c =
-    let t = c .before .before .before .before .before .before .before .before .before .before .before .before .before .before .before .before .before .args .text .now in
-    let at = c .before .before .before .before .before .before .before .before .before .before .before .before .before .loop .at in
-    let n = ap length (c .before .before .before .before .before .before .before .before .before .before .before .before .line-at .ensures) in
-    let s = step-on t at (omega (arith, n)) in
-    omega (arith, n, s .within)
+loop-less c = search needs
 
 loop-again : tie.Need-loop-again Inv-loop μ-loop
 loop-again c =
     let t = c .before .before .before .before .before .before .before .before .before .before .before .before .before .before .before .before .before .args .text .now in
     let at = c .before .before .before .before .before .before .before .before .before .before .before .before .before .loop .at in
-    let n = ap length (c .before .before .before .before .before .before .before .before .before .before .before .before .line-at .ensures) in
+    let n = ap length (c .before .before .before .before .before .before .before .before .before .before .before .before .line-at .ensures .0) in
     let s = step-on t at (omega (arith, n)) in
-    (search needs, search needs, omega (arith, n, s .within), c .before .before .before .before .before .before .before .before .before .before .before .before .before .loop .inv .3 ∙ s .after ∙ ap (λ k. rest [] (drop (at + k) t)) (sym n))
+    (search needs, search needs, search needs, c .before .before .before .before .before .before .before .before .before .before .before .before .before .loop .inv .3 ∙ s .after ∙ ap (λ k. rest [] (drop (at + k) t)) (sym n))
 
 is-written-requires : tie.Need-is-written-requires Inv-loop μ-loop
 is-written-requires c κs = search needs
@@ -75,7 +70,7 @@ returns-2 : tie.Need-returns-2 Inv-loop μ-loop
 returns-2 c =
     let t = c .before .before .before .before .before .before .before .before .before .args .text .now in
     let at = c .before .before .before .before .before .loop .at in
-    let n = ap length (c .before .before .before .before .line-at .ensures) in
+    let n = ap length (c .before .before .before .before .line-at .ensures .0) in
     (c .before .before .before .before .before .loop .inv .2, c .before .before .before .before .before .loop .inv .3 ∙ step-none t at (omega (arith, n)) .1)
 
 same-length-5 : tie.Need-same-length-5 Inv-loop μ-loop
