@@ -35,6 +35,13 @@ enum Answers {
     NoMore,
 }
 
+// Where the text ends after a read; that nothing was left to read; or that the read failed.
+enum Read {
+    UpTo(usize),
+    Nothing,
+    Failed,
+}
+
 // How far a text is judged: up to a place, or that the program is to stop.
 enum Judged {
     UpTo(usize),
@@ -127,24 +134,35 @@ fn judge_lines(mem: &mut [u64], text: &[u8], answers: &mut [u8]) -> Judged
     Judged::Stopped
 }
 
-// Reads once, after the bytes that are held, and judges the lines that end there. What follows them is held, 161 bytes of it at most.
-fn judge_block(mem: &mut [u64], text: &mut [u8], held: usize, answers: &mut [u8]) -> Turn
+// Reads once, after the bytes that are held, and answers where the text then ends. Standard error says why a read failed.
+fn read_after(text: &mut [u8], held: usize) -> Read
     requires { ⌜ held ≤ length (now text) ⌝ }
-    ensures { λ r. ⌜ HeldFew r ⌝ }
 {
     let got = libc::read(STDIN_FILENO, &mut text[held..]);
     if got < 0 {
         os::fail(b"standard input");
-        return Turn::Broken;
+        return Read::Failed;
     }
     if got == 0 {
-        return Turn::Ended;
+        return Read::Nothing;
     }
-    let filled = held + io::count(got, &text[held..]);
-    let Judged::UpTo(at) = judge_lines(mem, &text[0..filled], answers) else {
-        return Turn::Broken;
+    Read::UpTo(held + io::count(got, &text[held..]))
+}
+
+// Reads a block after the bytes that are held, and judges the lines that end in it. What follows them is held, 161 bytes of it at most.
+fn judge_block(mem: &mut [u64], text: &mut [u8], held: usize, answers: &mut [u8]) -> Turn
+    requires { ⌜ held ≤ length (now text) ⌝ }
+    ensures { λ r. ⌜ HeldFew r ⌝ }
+{
+    let to = match read_after(text, held) {
+        Read::UpTo(end) => end,
+        Read::Nothing => return Turn::Ended,
+        Read::Failed => return Turn::Broken,
     };
-    Turn::Held(lines::keep_rest(text, at, filled))
+    match judge_lines(mem, fields::part(text, Place { from: 0, to }), answers) {
+        Judged::UpTo(at) => Turn::Held(lines::keep_rest(text, at, to)),
+        Judged::Stopped => Turn::Broken,
+    }
 }
 
 // Judges a last part that the input ends without LF. Where it is empty there is none.

@@ -16,7 +16,7 @@ lent-once : Once 1 lent-kinds.ps lent-kinds.r lent-reads.Post (λ κs x s. now x
 lent-once κs a x y s t p q = p ∙ sym q
 
 keep-rest-once : Once 1 keep-rest-kinds.ps keep-rest-kinds.r keep-rest-reads.Post (λ κs x s. x)
-keep-rest-once κs a x y s t p q = p .1 ∙ sym (q .1)
+keep-rest-once κs a x y s t p q = p .1 .0 ∙ sym (q .1 .0)
 
 keep-rest-text : Once 1 keep-rest-kinds.ps keep-rest-kinds.r keep-rest-reads.Post (λ κs x s. s .0 .now)
 keep-rest-text κs a x y s t p q = p .0 ∙ sym (q .0)

@@ -50,6 +50,7 @@ pub fn lent(line: &[u8]) -> &[u8]
 pub fn keep_rest(text: &mut [u8], from: usize, to: usize) -> usize
     ensures memory { λ _. ⌜ now (text .exit) ≡ to-front (now (text .entry)) from to ⌝ }
     ensures answer { λ r. ⌜ r ≡ length (lent (stretch (now (text .entry)) from to)) ⌝ }
+    ensures few { λ r. ⌜ r ≤ 161 ⌝ }
 {
     let count = lent(fields::part(text, Place { from, to })).len();
     let mut i = 0;

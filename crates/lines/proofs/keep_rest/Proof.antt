@@ -3,7 +3,8 @@ use mathlib.Core.Path.{_≡_, refl, ap, _∙_}
 use Prim.Native.Nat.{_+_, _-_, _≤_}
 use native.Mathlib.Omega.{arith}
 use borrow.Author.Needs.{needs}
-use lib.ListN.{length, set, getD, take}
+use lib.ListN.{length, set, getD, take, length-take}
+use Rattle.fields.specs.Parts.{stretch}
 use Rattle.lines.specs.Splitting.{lent}
 use Rattle.lines.specs.Fronts.{front, moved, front-within, moved-length, moved-next, moved-all}
 use Rattle.lines.proofs.keep_rest.Statement.{statement}
@@ -63,7 +64,7 @@ returns : tie.Need-returns Inv-loop μ-loop
 returns c =
     let t = c .before .before .before .before .before .before .args .text .now in
     let n : c .before .loop .i ≡ length (front t (c .before .before .before .before .before .before .args .from) (c .before .before .before .before .before .before .args .to)) = omega arith in
-    (c .before .loop .inv .2 ∙ ap (moved t (c .before .before .before .before .before .before .args .from) (c .before .before .before .before .before .before .args .to)) n ∙ moved-all t (c .before .before .before .before .before .before .args .from) (c .before .before .before .before .before .before .args .to), c .before .loop .inv .0)
+    (c .before .loop .inv .2 ∙ ap (moved t (c .before .before .before .before .before .before .args .from) (c .before .before .before .before .before .before .args .to)) n ∙ moved-all t (c .before .before .before .before .before .before .args .from) (c .before .before .before .before .before .before .args .to), (c .before .loop .inv .0, omega (arith, length-take 161 (stretch t (c .before .before .before .before .before .before .args .from) (c .before .before .before .before .before .before .args .to)))))
 
 pub keep-rest-spec : {M : Type 1} → statement M
 keep-rest-spec =
