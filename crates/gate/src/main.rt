@@ -243,6 +243,7 @@ fn judge_day(mem: &mut [u64], text: &mut [u8], answers: &mut [u8])
 fn main() {
     let mut mem = [0u64; WORDS];
     let Made::Done = store::make_fresh(&mut mem) else {
+        say_refused();
         return;
     };
     let mut text = io::large_buffer();
