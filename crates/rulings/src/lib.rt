@@ -254,12 +254,12 @@ fn new_ruling(
     };
     let t = exchange(side, 0, value_of(figures), tally_at(mem, group));
     let symbol = find_symbol(mem, sym);
-    let number = checks::new_number(mem, group, symbol, t, side, size, price);
-    if number != 0 {
-        return hold(number);
+    let refusal = checks::new_number(mem, group, symbol, t, side, size, price);
+    if refusal != 0 {
+        return hold(refusal);
     }
     Ruling {
-        number,
+        number: refusal,
         deed: Deed {
             order: OrderShift::Adds {
                 figures,
