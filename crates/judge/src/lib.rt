@@ -98,7 +98,7 @@ fn set_up(number: u64, edit: Edit) -> Verdict
     answer(b'P', b'R', number, 0, Edit::Nothing)
 }
 
-// The number of a G or an S: 2 after O, 3 where its row is one of those listed, 4 where no more are listed, or 0.
+// The number of a G or an S: 2 after O, 3 where its row is one of those listed, 4 where the most are listed already, or 0.
 fn listing_number(opened: u64, row: usize, listed: usize, most: usize) -> u64
     ensures { λ r. ⌜ r ≡ first (listing-checks opened row listed most) ⌝ }
 {
