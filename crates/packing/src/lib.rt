@@ -127,13 +127,23 @@ fn takes_text(w: u64) -> bool
     marks(w, 4) == marks(w, 3)
 }
 
+// The same of a word that is often 0: an identifier's second, and its third.
+fn takes_more(w: u64) -> bool
+    ensures { λ r. ⌜ r ≡ every (takes (identifier unnamed)) (spelt 8 w) ⌝ }
+{
+    if w == 0 {
+        return true;
+    }
+    takes_text(w)
+}
+
 // Whether the identifier's form takes each byte of the three words.
 fn takes_words(x: Ident) -> bool
     ensures { λ r. ⌜ r ≡ every (takes (identifier unnamed)) (unpacked (named x)) ⌝ }
 {
     if takes_text(x.head) {
-        if takes_text(x.middle) {
-            return takes_text(x.tail);
+        if takes_more(x.middle) {
+            return takes_more(x.tail);
         }
     }
     false
