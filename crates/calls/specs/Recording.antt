@@ -22,23 +22,22 @@ use Rattle.judge.specs.declared.Verdict.{Verdict}
 use Rattle.calls.specs.Calling.{said-by, verdict-on, answer-to}
 use Rattle.calls.specs.Keeping.{answer-written}
 
-module _ (m l : List ℕ) (e : state-ok m ≡ true) (r : Reading) (q : r ≡ reading l) (w : Verdict) (j : w ≡ verdict-in-rows (rows-of m) (judge (view m) (record-of l r))) where
-  told : w ≡ verdict-in-rows (rows-of m) (verdict-on m l)
-  told = j ∙ ap (λ r. verdict-in-rows (rows-of m) (judge (view m) (record-of l r))) q
+-- what a verdict of the code gives: stores that have room and are the rulebook's edit written, and its answer line, of at most 32 bytes
+pub record Told (m l : List ℕ) (r : Reading) (w : Verdict) : Type 0 where
+  pub storable : Storable (room-of m) m (edit-stored (rows-of m) (w .edit))
+  pub written : run (layout (room-of m)) (edit-stored (rows-of m) (w .edit)) m ≡ write (verdict-on m l .edit) m
+  pub answer : answer-bytes l r (w .outcome) (w .number) (w .sent) ≡ answer-to m l
+  pub short : length (answer-bytes l r (w .outcome) (w .number) (w .sent)) ≤ 32
 
-  edit-told : w .edit ≡ edit-in-rows (rows-of m) (verdict-on m l .edit)
-  unfolding verdict-in-rows
-  edit-told = ap (λ (w : Verdict). w .edit) told
-
-  pub edit-storable : Storable (room-of m) m (edit-stored (rows-of m) (w .edit))
-  edit-storable = subst (λ e. Storable (room-of m) m (edit-stored (rows-of m) e)) (sym edit-told) (apt-storable m (valid-counted m (exactly m .0 e)) (verdict-on m l .edit) (judged-apt (view m) (said-by l)))
-
-  pub edit-written : run (layout (room-of m)) (edit-stored (rows-of m) (w .edit)) m ≡ write (verdict-on m l .edit) m
-  edit-written = ap (λ e. run (layout (room-of m)) (edit-stored (rows-of m) e) m) edit-told ∙ stored-written m (verdict-on m l .edit)
-
-  pub answer-told : answer-bytes l r (w .outcome) (w .number) (w .sent) ≡ answer-to m l
-  unfolding verdict-in-rows
-  answer-told = λ i. answer-bytes l (q i) (told i .outcome) (told i .number) (told i .sent)
-
-  pub answer-short : length (answer-bytes l r (w .outcome) (w .number) (w .sent)) ≤ 32
-  answer-short = subst (λ (cs : List ℕ). length cs ≤ 32) (sym answer-told) (answer-written m l e .1)
+pub told : (m l : List ℕ) → state-ok m ≡ true → (r : Reading) → r ≡ reading l → (w : Verdict) → w ≡ verdict-in-rows (rows-of m) (judge (view m) (record-of l r)) → Told m l r w
+unfolding verdict-in-rows
+told m l e r q w j =
+    let v : w ≡ verdict-in-rows (rows-of m) (verdict-on m l) = j ∙ ap (λ r. verdict-in-rows (rows-of m) (judge (view m) (record-of l r))) q in
+    let edit : w .edit ≡ edit-in-rows (rows-of m) (verdict-on m l .edit) = ap (λ (w : Verdict). w .edit) v in
+    let answer : answer-bytes l r (w .outcome) (w .number) (w .sent) ≡ answer-to m l = λ i. answer-bytes l (q i) (v i .outcome) (v i .number) (v i .sent) in
+    record {
+      storable = subst (λ e. Storable (room-of m) m (edit-stored (rows-of m) e)) (sym edit) (apt-storable m (valid-counted m (exactly m .0 e)) (verdict-on m l .edit) (judged-apt (view m) (said-by l)));
+      written = ap (λ e. run (layout (room-of m)) (edit-stored (rows-of m) e) m) edit ∙ stored-written m (verdict-on m l .edit);
+      answer = answer;
+      short = subst (λ (cs : List ℕ). length cs ≤ 32) (sym answer) (answer-written m l e .1);
+    }

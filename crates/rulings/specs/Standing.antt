@@ -3,7 +3,7 @@ use mathlib.Core.Path.{_≡_, refl, sym, ap, _∙_, subst}
 use mathlib.Core.Bool.{Bool, true, cond}
 use mathlib.Core.Option.{none, some}
 use mathlib.Core.List.{List}
-use Prim.Native.Nat.{ℕ, _+_, _≤_, _<_}
+use Prim.Native.Nat.{ℕ, _+_, _*_, _≤_, _<_}
 use native.Mathlib.Omega.{arith}
 use lib.Dec.{ltb}
 use lib.ListN.{length}
@@ -23,10 +23,11 @@ use Rattle.books.specs.Writing.{group-index, order-index}
 use Rattle.books.specs.Rules.{Valid}
 use Rattle.books.specs.Refining.{Counted}
 use Rattle.books.specs.Judged.{valid-counted}
-use Rattle.checks.specs.Saying.{tally-said, symbol-at}
+use Rattle.checks.specs.Saying.{figures-said, tally-said, symbol-at}
 use Rattle.checks.specs.Trying.{Checkable}
+use Rattle.checks.specs.declared.Figures.{Figures as FigureWords}
 use Rattle.checks.specs.declared.Tally.{Tally as TallyWords}
-use Rattle.rulings.specs.Counting.{value-said, exchanged, tally-puts, most-value, value-within, value-small, exchanged-small, exchanged-less, worked-less}
+use Rattle.rulings.specs.Counting.{value-said, exchanged, paid, tally-puts, most-value, value-within, product-small, value-small, exchanged-small, paid-small, exchanged-less, worked-less}
 use Rattle.rulings.specs.Looking.{at-row, group-looked, order-looked, row-there}
 use Rattle.rulings.specs.declared.Deal.{Deal}
 use Rattle.rulings.specs.declared.News.{News}
@@ -129,7 +130,7 @@ module _ (m : List ℕ) (g i : ℕ) (h : Held m g i) where
   pub held-small : Small (order .figures .size) (order .figures .price)
   held-small = let s = held-sound in record { small = s .size-fits .1; cheap = s .price-fits .1 }
 
-  pub held-done : order .figures .done ≤ order .figures .size
+  held-done : order .figures .done ≤ order .figures .size
   held-done = held-sound .done-within
 
   pub held-exchangeable : (new : ℕ) → new ≤ most-value → Exchangeable (is-buy (order .ticket .side)) (value-said (order .figures)) new (tally-in (rows-of m groups g))
@@ -161,10 +162,18 @@ module _ (m : List ℕ) (g i : ℕ) (h : Held m g i) where
       subst (λ (t : Tally). metrics t .gross-both ≤ 5_000_000_000_000_000_000) (held-tally f) (exchanged-small (is-buy (order .ticket .side)) (value-said (order .figures)) (value-said f) (tally-in (rows-of m groups g)) (value-small (f .size) (f .done) (f .price) (s .small) (s .cheap)) (e .within))
 
   -- an order that is worked leaves gross of both at most the ceiling
-  pub worked-within : (z : ℕ) → metrics (tally-after (rows-of m) g order (worked z (order .figures))) .gross-both ≤ ceiling
+  worked-within : (z : ℕ) → metrics (tally-after (rows-of m) g order (worked z (order .figures))) .gross-both ≤ ceiling
   worked-within z = let f = order .figures in let t = tally-in (rows-of m groups g) in let e = held-exchangeable 0 (omega arith) in
       subst (λ (t : Tally). metrics t .gross-both ≤ ceiling) (held-tally (worked z f))
       (exchanged-less (is-buy (order .ticket .side)) (value-said f) (value-said (worked z f)) t (worked-less (f .size) (f .done) z (f .price)) (e .part) (e .within))
+
+  -- and so does the code's tally of it
+  pub worked-tally : (z : ℕ) (old new : FigureWords) (t : TallyWords) → figures-said old ≡ order .figures → figures-said new ≡ worked z (figures-said old) → tally-said t ≡ tally-after (rows-of m) g order (figures-said new) → metrics (tally-said t) .gross-both ≤ ceiling
+  worked-tally z old new t e f k = subst (λ (t : Tally). metrics t .gross-both ≤ ceiling) (sym (k ∙ ap (tally-after (rows-of m) g order) (f ∙ ap (worked z) e))) (worked-within z)
+
+  -- the code's figures are small, and more can be done
+  pub old-small : (old : FigureWords) → figures-said old ≡ order .figures → Small (old .size) (old .price) × (old .done ≤ 1_000_000)
+  old-small old e = subst (λ (f : Figures). Small (f .size) (f .price) × (f .done ≤ 1_000_000)) (sym e) (held-small, omega (arith, held-done, held-small))
 
 -- ── quotes are in range ──
 pub quotes-small : (m : List ℕ) → Valid m → (y : ℕ) → (quotes (symbol-at (rows-of m) y) .bid ≤ 999_999_999_999) × (quotes (symbol-at (rows-of m) y) .offer ≤ 999_999_999_999)
@@ -174,6 +183,10 @@ quotes-small m v y = on (λ b. ltb y n ≡ b → (quotes (cond b (some (symbol-o
   where
     n : ℕ
     n = head-in (rows-of m) symbols-at
+
+-- the code's tally with a fill
+pub paid-tally : (b : Bool) (z p : ℕ) (t u : TallyWords) → Small z p → tally-said u ≡ paid b (z * p) (tally-said t) → metrics (tally-said t) .gross-both ≤ ceiling → metrics (tally-said u) .gross-both ≤ 5_000_000_000_000_000_000
+paid-tally b z p t u s e w = subst (λ (t : Tally). metrics t .gross-both ≤ 5_000_000_000_000_000_000) (sym e) (paid-small b (z * p) (tally-said t) (product-small z p (s .small) (s .cheap)) w)
 
 -- what N and M are checked by
 pub checkable : (m : List ℕ) → Valid m → (g y : ℕ) (t : TallyWords) (p : ℕ) → g < head-in (rows-of m) groups-at → metrics (tally-said t) .gross-both ≤ 5_000_000_000_000_000_000 → p ≤ 999_999_999_999 → Checkable m g y t p

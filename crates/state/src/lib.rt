@@ -25,10 +25,15 @@ const BUY: u64 = 66;
 // A row's first word.
 const FIRST: usize = 0;
 
-// Hints of where groups and symbols stand, and by what their words are spread over them.
+// Hints of where groups and symbols stand.
 const HINTS: usize = 1_024;
 
-const SPREAD: u64 = 1_021;
+// By what a word is spread over them: its low 32 bits, times an odd number near 2^32 over the golden ratio, and of that ten bits.
+const LOW: u64 = 0x1_0000_0000;
+
+const SPREAD: u64 = 2_654_435_769;
+
+const SHIFT: u64 = 0x40_0000;
 
 // A hint, as wide as an index.
 fn wide(x: u16) -> usize
@@ -69,14 +74,22 @@ fn symbols_ok(mem: &[u64]) -> bool
     true
 }
 
+// The hint that a word has.
+fn hint_of(word: u64) -> usize
+    ensures { λ r. ⌜ r < 1024 ⌝ }
+{
+    (word % LOW * SPREAD / SHIFT % 1024) as usize
+}
+
 // A hint for each of n rows: where its first word stands. Of rows that share a hint the last has it. A hint is only a hint: nothing is promised of it.
 fn hint_rows(mem: &[u64], at: usize, width: usize, n: usize, hints: &mut [u16])
     requires { ⌜ HasRows (now mem) at width 1 n ⌝ }
-    requires { ⌜ 1021 ≤ length (now hints) ⌝ }
+    requires { ⌜ 1024 ≤ length (now hints) ⌝ }
 {
     let mut i = 0;
     while i < n {
-        hints[(mem[at + i * width + FIRST] % SPREAD) as usize] = i as u16;
+        let s = hint_of(mem[at + i * width + FIRST]);
+        hints[s] = i as u16;
         i += 1;
     }
 }
@@ -92,10 +105,10 @@ fn find_hinted(
 ) -> usize
     requires { ⌜ HasRows (now mem) at width 1 n ⌝ }
     requires { ⌜ apart (same-row (now mem) at width 1) n ≡ true ⌝ }
-    requires { ⌜ 1021 ≤ length (now hints) ⌝ }
+    requires { ⌜ 1024 ≤ length (now hints) ⌝ }
     ensures { λ r. ⌜ r ≡ first-row (now (mem .entry)) at width n word ⌝ }
 {
-    let s = (word % SPREAD) as usize;
+    let s = hint_of(word);
     let i = wide(hints[s]);
     if i < n {
         if mem[at + i * width + FIRST] == word {
@@ -111,7 +124,7 @@ fn find_hinted(
 fn order_ok(mem: &[u64], ids: &mut [u16], i: usize) -> bool
     requires { ⌜ Counted (now mem) ⌝ }
     requires { ⌜ apart (same-row (now mem) (base-of symbols) (width-of symbols) 1) (head-in (rows-of (now mem)) symbols-at) ≡ true ⌝ }
-    requires { ⌜ 1021 ≤ length (now ids) ⌝ }
+    requires { ⌜ 1024 ≤ length (now ids) ⌝ }
     requires { ⌜ i < room-of (now mem) ⌝ }
     ensures { λ r. ⌜ r ≡ figures-right (now (mem .entry)) i ⌝ }
 {
@@ -132,7 +145,7 @@ fn order_ok(mem: &[u64], ids: &mut [u16], i: usize) -> bool
 fn place_ok(mem: &[u64], ids: &mut [u16], i: usize) -> bool
     requires { ⌜ Counted (now mem) ⌝ }
     requires { ⌜ apart (same-row (now mem) (base-of symbols) (width-of symbols) 1) (head-in (rows-of (now mem)) symbols-at) ≡ true ⌝ }
-    requires { ⌜ 1021 ≤ length (now ids) ⌝ }
+    requires { ⌜ 1024 ≤ length (now ids) ⌝ }
     requires { ⌜ i < room-of (now mem) ⌝ }
     ensures { λ r. ⌜ r ≡ place-ok (now (mem .entry)) i ⌝ }
 {
@@ -146,7 +159,7 @@ fn place_ok(mem: &[u64], ids: &mut [u16], i: usize) -> bool
 fn desk_of(mem: &[u64], desks: &mut [u16], i: usize) -> usize
     requires { ⌜ Counted (now mem) ⌝ }
     requires { ⌜ apart (same-row (now mem) (base-of groups) (width-of groups) 1) (head-in (rows-of (now mem)) groups-at) ≡ true ⌝ }
-    requires { ⌜ 1021 ≤ length (now desks) ⌝ }
+    requires { ⌜ 1024 ≤ length (now desks) ⌝ }
     requires { ⌜ i < room-of (now mem) ⌝ }
     ensures { λ r. ⌜ r ≡ desk-at (now (mem .entry)) i ⌝ }
 {
@@ -199,8 +212,8 @@ fn add_value(mem: &[u64], i: usize, k: usize, sums: &mut [u64]) -> bool
 // Every taken place tried, its owner found and its open value added. False where a place is not in range, its owner not listed, or a total above the ceiling.
 fn tally(mem: &[u64], desks: &mut [u16], ids: &mut [u16], sums: &mut [u64]) -> bool
     requires { ⌜ Listed (now mem) ⌝ }
-    requires { ⌜ 1021 ≤ length (now desks) ⌝ }
-    requires { ⌜ 1021 ≤ length (now ids) ⌝ }
+    requires { ⌜ 1024 ≤ length (now desks) ⌝ }
+    requires { ⌜ 1024 ≤ length (now ids) ⌝ }
     requires { ⌜ Sums (rows-of (now mem)) (now sums) 0 ⌝ }
     ensures { λ r. ⌜ Tallied (now (mem .entry)) (now (sums .exit)) r ⌝ }
 {

@@ -35,10 +35,10 @@ same-length : tie.Need-same-length
 same-length c = search needs
 
 returns-3 : tie.Need-returns-3
-returns-3 c = (λ j. closing-left (c .before .before .put-closing .ensures .0 j) (c .before .before .put-closing .ensures .1 j)) ∙ sym (totals-closed (c .before .before .before .before .before .before .before .before .before .before .before .before .before .args .mem .now) (c .before .before .before .before .before .before .before .before .before .before .before .before .before .args .place) (sym (c .before .before .before .before .before .before .before .before .before .state-ok .ensures) ∙ not-false _ (c .before .before .before .before .before .before .before .before .if2 .left)) (c .before .before .before .before .before .before .before .before .before .before .before .before .before .args .to .now) (c .before .before .before .before .before .before .before .before .before .before .if1 .left) ∙ ap (λ s. closing-by s (c .before .before .before .before .before .before .before .before .before .before .before .before .before .args .to .now)) (sym (c .before .before .before .before .before .before .before .closing-totals .ensures) ∙ c .before .before .before .before .before .mpid .given .1))
+returns-3 c = let s = c .before .before .before .before .before .before .before .before .before .before .before .before .before in (λ j. closing-left (c .before .before .put-closing .ensures .0 j) (c .before .before .put-closing .ensures .1 j)) ∙ sym (totals-closed (s .args .mem .now) (s .args .place) (sym (c .before .before .before .before .before .before .before .before .before .state-ok .ensures) ∙ not-false _ (c .before .before .before .before .before .before .before .before .if2 .left)) (s .args .to .now) (c .before .before .before .before .before .before .before .before .before .before .if1 .left) ∙ ap (λ x. closing-by x (s .args .to .now)) (sym (c .before .before .before .before .before .before .before .closing-totals .ensures) ∙ c .before .before .before .before .before .mpid .given .1))
 
 returns-4 : tie.Need-returns-4
-returns-4 c = sym (totals-closed (c .before .before .before .before .before .before .before .before .args .mem .now) (c .before .before .before .before .before .before .before .before .args .place) (sym (c .before .before .before .before .state-ok .ensures) ∙ not-false _ (c .before .before .before .if2 .left)) (c .before .before .before .before .before .before .before .before .args .to .now) (c .before .before .before .before .before .if1 .left) ∙ ap (λ s. closing-by s (c .before .before .before .before .before .before .before .before .args .to .now)) (sym (c .before .before .closing-totals .ensures) ∙ c .enum-told .given .1))
+returns-4 c = let s = c .before .before .before .before .before .before .before .before in sym (totals-closed (s .args .mem .now) (s .args .place) (sym (c .before .before .before .before .state-ok .ensures) ∙ not-false _ (c .before .before .before .if2 .left)) (s .args .to .now) (c .before .before .before .before .before .if1 .left) ∙ ap (λ x. closing-by x (s .args .to .now)) (sym (c .before .before .closing-totals .ensures) ∙ c .enum-told .given .1))
 
 pub closing-spec : {M : Type 1} → statement M
 closing-spec =

@@ -8,7 +8,7 @@ use Rattle.codec.specs.Lines.{InForm, read-in-form}
 use Rattle.rules.specs.Meaning.{exactly}
 use Rattle.edits.specs.Storing.{valid-last}
 use Rattle.calls.specs.Keeping.{short-buffer, bad-state, judged-line}
-use Rattle.calls.specs.Recording.{edit-storable, edit-written, answer-told, answer-short}
+use Rattle.calls.specs.Recording.{told}
 use Rattle.calls.specs.Calling.{begun, record-left}
 use Rattle.calls.specs.declared.Answered.{Answered}
 use Rattle.calls.proofs.record.Tie as tie
@@ -29,13 +29,13 @@ read-requires : tie.Need-read-requires
 read-requires c κs = search needs
 
 judge-requires : tie.Need-judge-requires
-judge-requires c κs = (exactly (c .before .before .before .before .before .before .before .before .before .args .mem .now) .0 (sym (c .before .before .before .state-ok .ensures) ∙ not-false _ (c .before .before .if2 .left)), subst (InForm (c .before .before .before .before .before .before .before .before .before .args .line .now)) (sym (c .before .read .ensures)) (read-in-form (c .before .before .before .before .before .before .before .before .before .args .line .now)))
+judge-requires c κs = let s = c .before .before .before .before .before .before .before .before .before in (exactly (s .args .mem .now) .0 (sym (c .before .before .before .state-ok .ensures) ∙ not-false _ (c .before .before .if2 .left)), subst (InForm (s .args .line .now)) (sym (c .before .read .ensures)) (read-in-form (s .args .line .now)))
 
 write-edit-requires : tie.Need-write-edit-requires
-write-edit-requires c κs = (edit-storable (c .before .before .before .before .before .before .before .before .before .before .before .args .mem .now) (c .before .before .before .before .before .before .before .before .before .before .before .args .line .now) (sym (c .before .before .before .before .before .state-ok .ensures) ∙ not-false _ (c .before .before .before .before .if2 .left)) _ (c .before .before .before .read .ensures) _ (c .before .judge .ensures), valid-last (c .before .before .before .before .before .before .before .before .before .before .before .args .mem .now) (exactly (c .before .before .before .before .before .before .before .before .before .before .before .args .mem .now) .0 (sym (c .before .before .before .before .before .state-ok .ensures) ∙ not-false _ (c .before .before .before .before .if2 .left))))
+write-edit-requires c κs = let s = c .before .before .before .before .before .before .before .before .before .before .before in let m = s .args .mem .now in let t = told m (s .args .line .now) (sym (c .before .before .before .before .before .state-ok .ensures) ∙ not-false _ (c .before .before .before .before .if2 .left)) _ (c .before .before .before .read .ensures) _ (c .before .judge .ensures) in (t .storable, valid-last m (exactly m .0 (sym (c .before .before .before .before .before .state-ok .ensures) ∙ not-false _ (c .before .before .before .before .if2 .left))))
 
 put-answer-requires : tie.Need-put-answer-requires
-put-answer-requires c κs = (answer-short (c .before .before .before .before .before .before .before .before .before .before .before .before .before .before .before .args .mem .now) (c .before .before .before .before .before .before .before .before .before .before .before .before .before .before .before .args .line .now) (sym (c .before .before .before .before .before .before .before .before .before .state-ok .ensures) ∙ not-false _ (c .before .before .before .before .before .before .before .before .if2 .left)) _ (c .before .before .before .before .before .before .before .read .ensures) _ (c .before .before .before .before .before .judge .ensures), c .before .before .before .before .before .before .before .before .before .before .before .if1 .left)
+put-answer-requires c κs = let t = told (c .before .before .before .before .before .before .before .before .before .before .before .before .before .before .before .args .mem .now) (c .before .before .before .before .before .before .before .before .before .before .before .before .before .before .before .args .line .now) (sym (c .before .before .before .before .before .before .before .before .before .state-ok .ensures) ∙ not-false _ (c .before .before .before .before .before .before .before .before .if2 .left)) _ (c .before .before .before .before .before .before .before .read .ensures) _ (c .before .before .before .before .before .judge .ensures) in (t .short, c .before .before .before .before .before .before .before .before .before .before .before .if1 .left)
 
 same-length-2 : tie.Need-same-length-2
 same-length-2 c = search needs
@@ -44,7 +44,7 @@ same-length-3 : tie.Need-same-length-3
 same-length-3 c = search needs
 
 returns-3 : tie.Need-returns-3
-returns-3 c = (λ j. record-left (c .before .before .put-answer .ensures .0 j) (c .before .before .before .before .before .before .write-edit .ensures j) (c .before .before .put-answer .ensures .1 j)) ∙ (λ j. record-left (Answered.Line (length (answer-told (c .before .before .before .before .before .before .before .before .before .before .before .before .before .before .before .before .before .before .args .mem .now) (c .before .before .before .before .before .before .before .before .before .before .before .before .before .before .before .before .before .before .args .line .now) (sym (c .before .before .before .before .before .before .before .before .before .before .before .before .state-ok .ensures) ∙ not-false _ (c .before .before .before .before .before .before .before .before .before .before .before .if2 .left)) _ (c .before .before .before .before .before .before .before .before .before .before .read .ensures) _ (c .before .before .before .before .before .before .before .before .judge .ensures) j))) (edit-written (c .before .before .before .before .before .before .before .before .before .before .before .before .before .before .before .before .before .before .args .mem .now) (c .before .before .before .before .before .before .before .before .before .before .before .before .before .before .before .before .before .before .args .line .now) (sym (c .before .before .before .before .before .before .before .before .before .before .before .before .state-ok .ensures) ∙ not-false _ (c .before .before .before .before .before .before .before .before .before .before .before .if2 .left)) _ (c .before .before .before .before .before .before .before .before .before .before .read .ensures) _ (c .before .before .before .before .before .before .before .before .judge .ensures) j) (begun (answer-told (c .before .before .before .before .before .before .before .before .before .before .before .before .before .before .before .before .before .before .args .mem .now) (c .before .before .before .before .before .before .before .before .before .before .before .before .before .before .before .before .before .before .args .line .now) (sym (c .before .before .before .before .before .before .before .before .before .before .before .before .state-ok .ensures) ∙ not-false _ (c .before .before .before .before .before .before .before .before .before .before .before .if2 .left)) _ (c .before .before .before .before .before .before .before .before .before .before .read .ensures) _ (c .before .before .before .before .before .before .before .before .judge .ensures) j) (c .before .before .before .before .before .before .before .before .before .before .before .before .before .before .before .before .before .before .args .to .now))) ∙ sym (judged-line (c .before .before .before .before .before .before .before .before .before .before .before .before .before .before .before .before .before .before .args .mem .now) (c .before .before .before .before .before .before .before .before .before .before .before .before .before .before .before .before .before .before .args .line .now) (c .before .before .before .before .before .before .before .before .before .before .before .before .before .before .before .before .before .before .args .to .now) (c .before .before .before .before .before .before .before .before .before .before .before .before .before .before .if1 .left) (sym (c .before .before .before .before .before .before .before .before .before .before .before .before .state-ok .ensures) ∙ not-false _ (c .before .before .before .before .before .before .before .before .before .before .before .if2 .left)))
+returns-3 c = let s = c .before .before .before .before .before .before .before .before .before .before .before .before .before .before .before .before .before .before in let t = told (s .args .mem .now) (s .args .line .now) (sym (c .before .before .before .before .before .before .before .before .before .before .before .before .state-ok .ensures) ∙ not-false _ (c .before .before .before .before .before .before .before .before .before .before .before .if2 .left)) _ (c .before .before .before .before .before .before .before .before .before .before .read .ensures) _ (c .before .before .before .before .before .before .before .before .judge .ensures) in (λ j. record-left (c .before .before .put-answer .ensures .0 j) (c .before .before .before .before .before .before .write-edit .ensures j) (c .before .before .put-answer .ensures .1 j)) ∙ (λ j. record-left (Answered.Line (length (t .answer j))) (t .written j) (begun (t .answer j) (s .args .to .now))) ∙ sym (judged-line (s .args .mem .now) (s .args .line .now) (s .args .to .now) (c .before .before .before .before .before .before .before .before .before .before .before .before .before .before .if1 .left) (sym (c .before .before .before .before .before .before .before .before .before .before .before .before .state-ok .ensures) ∙ not-false _ (c .before .before .before .before .before .before .before .before .before .before .before .if2 .left)))
 
 pub record-spec : {M : Type 1} → statement M
 record-spec =

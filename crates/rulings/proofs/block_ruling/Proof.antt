@@ -7,10 +7,10 @@ use Rattle.store.specs.Finding.{named-by}
 use Rattle.rulings.proofs.block_ruling.Tie as tie
 
 tally-at-requires : tie.Need-tally-at-requires
-tally-at-requires c κs = let n = valid-counted (c .before .args .mem .now) (c .before .pre .valid) in (n, omega (arith, n, c .before .pre .listed))
+tally-at-requires c κs = let s = c .before in let n = valid-counted (s .args .mem .now) (s .pre .valid) in (n, omega (arith, n, s .pre .listed))
 
 returns : tie.Need-returns
-returns c = block-granted (c .before .before .args .mem .now) (named-by (c .before .before .args .key)) (c .before .before .args .group) (c .before .before .pre) (c .before .before .args .blocked) _ (c .tally-at .ensures)
+returns c = let s = c .before .before in block-granted (s .args .mem .now) (named-by (s .args .key)) (s .args .group) (s .pre) (s .args .blocked) _ (c .tally-at .ensures)
 
 pub block-ruling-spec : {M : Type 1} → statement M
 block-ruling-spec = tie.close (tie.spec tally-at-requires returns)

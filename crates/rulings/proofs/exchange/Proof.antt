@@ -9,7 +9,7 @@ use Rattle.rulings.specs.Counting.{exchanged, part-bought, part-sold}
 use Rattle.rulings.proofs.exchange.Tie as tie
 
 sub-t6 : tie.Need-sub-t6
-sub-t6 c = omega (arith, part-bought (c .before .before .args .side) (c .before .before .args .t .ob) (c .before .before .args .t .os) (c .before .if1 .taken) (c .before .before .pre .part))
+sub-t6 c = let s = c .before .before in omega (arith, part-bought (s .args .side) (s .args .t .ob) (s .args .t .os) (c .before .if1 .taken) (s .pre .part))
 
 add-t7 : tie.Need-add-t7
 add-t7 c = search needs
@@ -19,7 +19,7 @@ unfolding exchanged
 returns c = rw (buy-read (c .before .before .args .side) ∙ eq-eqb (c .before .before .args .side) 66 (c .before .if1 .taken)) refl
 
 sub-t8 : tie.Need-sub-t8
-sub-t8 c = omega (arith, part-sold (c .before .before .args .side) (c .before .before .args .t .ob) (c .before .before .args .t .os) (c .before .if1 .left) (c .before .before .pre .part))
+sub-t8 c = let s = c .before .before in omega (arith, part-sold (s .args .side) (s .args .t .ob) (s .args .t .os) (c .before .if1 .left) (s .pre .part))
 
 add-t9 : tie.Need-add-t9
 add-t9 c = search needs

@@ -1,13 +1,13 @@
 -- `rulings::fill_at` meets its contract: the tally with the fill, and the first check that holds.
 use Rattle.rulings.proofs.fill_at.Statement.{statement}
-use mathlib.Core.Path.{sym, ap, _∙_, subst}
+use mathlib.Core.Path.{sym, _∙_, subst}
 use native.Mathlib.Omega.{arith}
-use Prim.Native.Nat.{_+_, _*_, _≤_}
+use Prim.Native.Nat.{_+_, _*_}
 use Rattle.laws.specs.Tables.{put}
-use Rattle.rulebook.specs.Kept.{Figures, worked, with-figures, by-key, Tally, metrics}
-use Rattle.rulebook.specs.Lines.{ceiling, is-buy}
-use Rattle.rulings.specs.Standing.{Small, held-bounds, held-small, held-done, worked-within, tally-after}
-use Rattle.rulings.specs.Counting.{paid, tally-traded, product-small, paid-small}
+use Rattle.rulebook.specs.Kept.{Figures, with-figures, by-key}
+use Rattle.rulebook.specs.Lines.{is-buy}
+use Rattle.rulings.specs.Standing.{Small, held-bounds, old-small, worked-tally, paid-tally}
+use Rattle.rulings.specs.Counting.{paid, tally-traded, product-small}
 use Rattle.rulings.specs.Granting.{fill-ruled}
 use Rattle.books.specs.View.{rows-of, order-of, group-of, orders-in}
 use Rattle.checks.specs.Saying.{figures-said}
@@ -17,40 +17,40 @@ use Rattle.books.specs.Layout.{side-at}
 use Rattle.rulings.proofs.fill_at.Tie as tie
 
 request-at-requires : tie.Need-request-at-requires
-request-at-requires c κs = let b = held-bounds (c .before .args .mem .now) (c .before .args .group) (c .before .args .i) (c .before .pre .0) in (b .counts, b .room)
+request-at-requires c κs = let s = c .before in let b = held-bounds (s .args .mem .now) (s .args .group) (s .args .i) (s .pre .0) in (b .counts, b .room)
 
 add-side : tie.Need-add-side
-add-side c = omega (arith, c .request-at .ensures, held-bounds (c .before .before .args .mem .now) (c .before .before .args .group) (c .before .before .args .i) (c .before .before .pre .0))
+add-side c = let s = c .before .before in omega (arith, c .request-at .ensures, held-bounds (s .args .mem .now) (s .args .group) (s .args .i) (s .pre .0))
 
 mul-side : tie.Need-mul-side
-mul-side c = omega (arith, c .request-at .ensures, held-bounds (c .before .before .args .mem .now) (c .before .before .args .group) (c .before .before .args .i) (c .before .before .pre .0))
+mul-side c = let s = c .before .before in omega (arith, c .request-at .ensures, held-bounds (s .args .mem .now) (s .args .group) (s .args .i) (s .pre .0))
 
 shared-slice-read-side : tie.Need-shared-slice-read-side
-shared-slice-read-side c = omega (arith, c .before .request-at .ensures, held-bounds (c .before .before .before .args .mem .now) (c .before .before .before .args .group) (c .before .before .before .args .i) (c .before .before .before .pre .0))
+shared-slice-read-side c = let s = c .before .before .before in omega (arith, c .before .request-at .ensures, held-bounds (s .args .mem .now) (s .args .group) (s .args .i) (s .pre .0))
 
 figures-at-requires : tie.Need-figures-at-requires
-figures-at-requires c κs = let b = held-bounds (c .before .before .before .args .mem .now) (c .before .before .before .args .group) (c .before .before .before .args .i) (c .before .before .before .pre .0) in (b .counts, b .room)
+figures-at-requires c κs = let s = c .before .before .before in let b = held-bounds (s .args .mem .now) (s .args .group) (s .args .i) (s .pre .0) in (b .counts, b .room)
 
 worked-requires : tie.Need-worked-requires
-worked-requires c κs = (subst (λ (f : Figures). f .done ≤ 1_000_000) (sym (c .figures-at .ensures)) (omega (arith, held-done (c .before .before .before .before .args .mem .now) (c .before .before .before .before .args .group) (c .before .before .before .before .args .i) (c .before .before .before .before .pre .0), held-small (c .before .before .before .before .args .mem .now) (c .before .before .before .before .args .group) (c .before .before .before .before .args .i) (c .before .before .before .before .pre .0))), c .before .before .before .before .pre .1 .small)
+worked-requires c κs = let s = c .before .before .before .before in (old-small (s .args .mem .now) (s .args .group) (s .args .i) (s .pre .0) _ (c .figures-at .ensures) .1, s .pre .1 .small)
 
 mul-pay : tie.Need-mul-pay
-mul-pay c = omega (arith, product-small (c .before .before .before .before .before .args .size) (c .before .before .before .before .before .args .price) (c .before .before .before .before .before .pre .1 .small) (c .before .before .before .before .before .pre .1 .cheap))
+mul-pay c = let s = c .before .before .before .before .before in omega (arith, product-small (s .args .size) (s .args .price) (s .pre .1 .small) (s .pre .1 .cheap))
 
 tally-with-requires : tie.Need-tally-with-requires
-tally-with-requires c κs = (c .before .before .before .before .before .pre .0, subst (λ (f : Figures). Small (f .size) (f .price)) (sym (c .worked .ensures ∙ ap (worked (c .before .before .before .before .before .args .size)) (c .before .figures-at .ensures))) (held-small (c .before .before .before .before .before .args .mem .now) (c .before .before .before .before .before .args .group) (c .before .before .before .before .before .args .i) (c .before .before .before .before .before .pre .0)))
+tally-with-requires c κs = let s = c .before .before .before .before .before in (s .pre .0, subst (λ (f : Figures). Small (f .size) (f .price)) (sym (c .worked .ensures)) (old-small (s .args .mem .now) (s .args .group) (s .args .i) (s .pre .0) _ (c .before .figures-at .ensures) .0))
 
 pay-requires : tie.Need-pay-requires
-pay-requires c κs = record { most = product-small (c .before .before .before .before .before .before .args .size) (c .before .before .before .before .before .before .args .price) (c .before .before .before .before .before .before .pre .1 .small) (c .before .before .before .before .before .before .pre .1 .cheap); within = subst (λ (t : Tally). metrics t .gross-both ≤ ceiling) (sym (c .tally-with .ensures ∙ ap (tally-after (rows-of (c .before .before .before .before .before .before .args .mem .now)) (c .before .before .before .before .before .before .args .group) (order-of (rows-of (c .before .before .before .before .before .before .args .mem .now)) (c .before .before .before .before .before .before .args .i))) (c .before .worked .ensures ∙ ap (worked (c .before .before .before .before .before .before .args .size)) (c .before .before .figures-at .ensures)))) (worked-within (c .before .before .before .before .before .before .args .mem .now) (c .before .before .before .before .before .before .args .group) (c .before .before .before .before .before .before .args .i) (c .before .before .before .before .before .before .pre .0) (c .before .before .before .before .before .before .args .size)) }
+pay-requires c κs = let s = c .before .before .before .before .before .before in record { most = product-small (s .args .size) (s .args .price) (s .pre .1 .small) (s .pre .1 .cheap); within = worked-tally (s .args .mem .now) (s .args .group) (s .args .i) (s .pre .0) (s .args .size) _ _ _ (c .before .before .figures-at .ensures) (c .before .worked .ensures) (c .tally-with .ensures) }
 
 fill-number-requires : tie.Need-fill-number-requires
-fill-number-requires c κs = subst (λ (t : Tally). metrics t .gross-both ≤ 5_000_000_000_000_000_000) (sym (c .pay .ensures)) (paid-small _ _ _ (product-small (c .before .before .before .before .before .before .before .args .size) (c .before .before .before .before .before .before .before .args .price) (c .before .before .before .before .before .before .before .pre .1 .small) (c .before .before .before .before .before .before .before .pre .1 .cheap)) (subst (λ (t : Tally). metrics t .gross-both ≤ ceiling) (sym (c .before .tally-with .ensures ∙ ap (tally-after (rows-of (c .before .before .before .before .before .before .before .args .mem .now)) (c .before .before .before .before .before .before .before .args .group) (order-of (rows-of (c .before .before .before .before .before .before .before .args .mem .now)) (c .before .before .before .before .before .before .before .args .i))) (c .before .before .worked .ensures ∙ ap (worked (c .before .before .before .before .before .before .before .args .size)) (c .before .before .before .figures-at .ensures)))) (worked-within (c .before .before .before .before .before .before .before .args .mem .now) (c .before .before .before .before .before .before .before .args .group) (c .before .before .before .before .before .before .before .args .i) (c .before .before .before .before .before .before .before .pre .0) (c .before .before .before .before .before .before .before .args .size))))
+fill-number-requires c κs = let s = c .before .before .before .before .before .before .before in paid-tally _ (s .args .size) (s .args .price) _ _ (s .pre .1) (c .pay .ensures) (worked-tally (s .args .mem .now) (s .args .group) (s .args .i) (s .pre .0) (s .args .size) _ _ _ (c .before .before .before .figures-at .ensures) (c .before .before .worked .ensures) (c .before .tally-with .ensures))
 
 work-requires : tie.Need-work-requires
-work-requires c κs = let b = held-bounds (c .before .before .before .before .before .before .before .before .args .mem .now) (c .before .before .before .before .before .before .before .before .args .group) (c .before .before .before .before .before .before .before .before .args .i) (c .before .before .before .before .before .before .before .before .pre .0) in record { long = b .counts .long; few = b .few; within = subst (λ (t : Tally). metrics t .gross-both ≤ 5_000_000_000_000_000_000) (sym (c .before .pay .ensures)) (paid-small _ _ _ (product-small (c .before .before .before .before .before .before .before .before .args .size) (c .before .before .before .before .before .before .before .before .args .price) (c .before .before .before .before .before .before .before .before .pre .1 .small) (c .before .before .before .before .before .before .before .before .pre .1 .cheap)) (subst (λ (t : Tally). metrics t .gross-both ≤ ceiling) (sym (c .before .before .tally-with .ensures ∙ ap (tally-after (rows-of (c .before .before .before .before .before .before .before .before .args .mem .now)) (c .before .before .before .before .before .before .before .before .args .group) (order-of (rows-of (c .before .before .before .before .before .before .before .before .args .mem .now)) (c .before .before .before .before .before .before .before .before .args .i))) (c .before .before .before .worked .ensures ∙ ap (worked (c .before .before .before .before .before .before .before .before .args .size)) (c .before .before .before .before .figures-at .ensures)))) (worked-within (c .before .before .before .before .before .before .before .before .args .mem .now) (c .before .before .before .before .before .before .before .before .args .group) (c .before .before .before .before .before .before .before .before .args .i) (c .before .before .before .before .before .before .before .before .pre .0) (c .before .before .before .before .before .before .before .before .args .size)))) }
+work-requires c κs = let s = c .before .before .before .before .before .before .before .before in let b = held-bounds (s .args .mem .now) (s .args .group) (s .args .i) (s .pre .0) in record { long = b .counts .long; few = b .few; within = paid-tally _ (s .args .size) (s .args .price) _ _ (s .pre .1) (c .before .pay .ensures) (worked-tally (s .args .mem .now) (s .args .group) (s .args .i) (s .pre .0) (s .args .size) _ _ _ (c .before .before .before .before .figures-at .ensures) (c .before .before .before .worked .ensures) (c .before .before .tally-with .ensures)) }
 
 returns : tie.Need-returns
-returns c = c .work .ensures ∙ fill-ruled (c .before .before .before .before .before .before .before .before .before .args .mem .now) (c .before .before .before .before .before .before .before .before .before .args .group) (c .before .before .before .before .before .before .before .before .before .args .i) (c .before .before .before .before .before .before .before .before .before .pre .0) _ (c .before .before .before .before .before .figures-at .ensures) _ _ _ (c .before .before .before .before .before .before .before .before .before .args .size) (c .before .before .before .before .before .before .before .before .before .args .price) (c .before .fill-number .ensures) (c .before .before .before .before .worked .ensures) (c .before .before .pay .ensures ∙ (λ j. paid (is-buy (side-of (getD (c .before .before .before .before .before .before .before .before .before .args .mem .now) (c .before .before .before .before .before .before .before .request-at .ensures j + side-at) 0))) (c .before .before .before .before .before .before .before .before .before .args .size * c .before .before .before .before .before .before .before .before .before .args .price) (c .before .before .before .tally-with .ensures j)) ∙ sym (tally-traded (group-of (rows-of (c .before .before .before .before .before .before .before .before .before .args .mem .now)) (c .before .before .before .before .before .before .before .before .before .args .group)) (put by-key (with-figures (order-of (rows-of (c .before .before .before .before .before .before .before .before .before .args .mem .now)) (c .before .before .before .before .before .before .before .before .before .args .i)) (figures-said (c .before .before .before .before .worked .result))) (orders-in (rows-of (c .before .before .before .before .before .before .before .before .before .args .mem .now)))) (is-buy (order-of (rows-of (c .before .before .before .before .before .before .before .before .before .args .mem .now)) (c .before .before .before .before .before .before .before .before .before .args .i) .ticket .side)) (c .before .before .before .before .before .before .before .before .before .args .size * c .before .before .before .before .before .before .before .before .before .args .price)))
+returns c = let s = c .before .before .before .before .before .before .before .before .before in let m = s .args .mem .now in let i = s .args .i in c .work .ensures ∙ fill-ruled m (s .args .group) i (s .pre .0) _ (c .before .before .before .before .before .figures-at .ensures) _ _ _ (s .args .size) (s .args .price) (c .before .fill-number .ensures) (c .before .before .before .before .worked .ensures) (c .before .before .pay .ensures ∙ (λ j. paid (is-buy (side-of (getD m (c .before .before .before .before .before .before .before .request-at .ensures j + side-at) 0))) (s .args .size * s .args .price) (c .before .before .before .tally-with .ensures j)) ∙ sym (tally-traded (group-of (rows-of m) (s .args .group)) (put by-key (with-figures (order-of (rows-of m) i) (figures-said (c .before .before .before .before .worked .result))) (orders-in (rows-of m))) (is-buy (order-of (rows-of m) i .ticket .side)) (s .args .size * s .args .price)))
 
 pub fill-at-spec : {M : Type 1} → statement M
 fill-at-spec =

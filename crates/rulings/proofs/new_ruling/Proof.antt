@@ -18,25 +18,25 @@ value-of-requires : tie.Need-value-of-requires
 value-of-requires c κs = search needs
 
 tally-at-requires : tie.Need-tally-at-requires
-tally-at-requires c κs = let n = valid-counted (c .before .before .args .mem .now) (c .before .before .pre .0 .valid) in (n, omega (arith, n, c .before .before .pre .0 .listed))
+tally-at-requires c κs = let s = c .before .before in let n = valid-counted (s .args .mem .now) (s .pre .0 .valid) in (n, omega (arith, n, s .pre .0 .listed))
 
 exchange-requires : tie.Need-exchange-requires
-exchange-requires c κs = subst (λ (t : Tally). Exchangeable (is-buy (side-of (c .before .before .before .args .side))) 0 (c .before .value-of .result) t) (sym (c .tally-at .ensures)) (new-exchangeable (c .before .before .before .args .mem .now) (c .before .before .before .pre .0 .valid) (c .before .before .before .args .group) (c .before .before .before .pre .0 .listed) _ _ (rw (c .before .value-of .ensures) (value-small (c .before .before .before .args .size) 0 (c .before .before .before .args .price) (c .before .before .before .pre .1 .small) (c .before .before .before .pre .1 .cheap))))
+exchange-requires c κs = let s = c .before .before .before in subst (λ (t : Tally). Exchangeable (is-buy (side-of (s .args .side))) 0 (c .before .value-of .result) t) (sym (c .tally-at .ensures)) (new-exchangeable (s .args .mem .now) (s .pre .0 .valid) (s .args .group) (s .pre .0 .listed) _ _ (rw (c .before .value-of .ensures) (value-small (s .args .size) 0 (s .args .price) (s .pre .1 .small) (s .pre .1 .cheap))))
 
 find-symbol-requires : tie.Need-find-symbol-requires
 find-symbol-requires c κs = valid-counted (c .before .before .before .before .args .mem .now) (c .before .before .before .before .pre .0 .valid)
 
 new-number-requires : tie.Need-new-number-requires
-new-number-requires c κs = checkable (c .before .before .before .before .before .args .mem .now) (c .before .before .before .before .before .pre .0 .valid) (c .before .before .before .before .before .args .group) _ _ _ (c .before .before .before .before .before .pre .0 .listed) (subst (λ (t : Tally). metrics t .gross-both ≤ 5_000_000_000_000_000_000) (sym (c .before .exchange .ensures)) (exchanged-small _ _ _ _ (rw (c .before .before .before .value-of .ensures) (value-small (c .before .before .before .before .before .args .size) 0 (c .before .before .before .before .before .args .price) (c .before .before .before .before .before .pre .1 .small) (c .before .before .before .before .before .pre .1 .cheap))) (subst (λ (t : Tally). metrics t .gross-both ≤ ceiling) (sym (c .before .before .tally-at .ensures)) (stored-within (c .before .before .before .before .before .args .mem .now) (c .before .before .before .before .before .pre .0 .valid) (c .before .before .before .before .before .args .group) (c .before .before .before .before .before .pre .0 .listed))))) (c .before .before .before .before .before .pre .1 .cheap)
+new-number-requires c κs = let s = c .before .before .before .before .before in let h = s .pre .0 in checkable (s .args .mem .now) (h .valid) (s .args .group) _ _ _ (h .listed) (subst (λ (t : Tally). metrics t .gross-both ≤ 5_000_000_000_000_000_000) (sym (c .before .exchange .ensures)) (exchanged-small _ _ _ _ (rw (c .before .before .before .value-of .ensures) (value-small (s .args .size) 0 (s .args .price) (s .pre .1 .small) (s .pre .1 .cheap))) (subst (λ (t : Tally). metrics t .gross-both ≤ ceiling) (sym (c .before .before .tally-at .ensures)) (stored-within (s .args .mem .now) (h .valid) (s .args .group) (h .listed))))) (s .pre .1 .cheap)
 
 hold-requires : tie.Need-hold-requires
 hold-requires c κs = search needs
 
 returns : tie.Need-returns
-returns c = c .hold .ensures ∙ new-held (c .before .before .before .before .before .before .before .before .args .mem .now) (named-by (c .before .before .before .before .before .before .before .before .args .key)) (c .before .before .before .before .before .before .before .before .args .group) (c .before .before .before .before .before .before .before .before .pre .0) _ _ _ (c .before .before .before .before .before .before .before .before .args .sym) (c .before .before .before .before .before .before .before .before .args .side) (c .before .before .before .before .before .before .before .before .args .size) (c .before .before .before .before .before .before .before .before .args .price) (c .before .before .new-number .ensures) (c .before .before .before .find-symbol .ensures) (c .before .before .before .before .exchange .ensures ∙ (λ j. exchanged (is-buy (side-of (c .before .before .before .before .before .before .before .before .args .side))) 0 (c .before .before .before .before .before .before .value-of .ensures j) (c .before .before .before .before .before .tally-at .ensures j))) (c .before .if1 .taken)
+returns c = let s = c .before .before .before .before .before .before .before .before in c .hold .ensures ∙ new-held (s .args .mem .now) (named-by (s .args .key)) (s .args .group) (s .pre .0) _ _ _ (s .args .sym) (s .args .side) (s .args .size) (s .args .price) (c .before .before .new-number .ensures) (c .before .before .before .find-symbol .ensures) (c .before .before .before .before .exchange .ensures ∙ (λ j. exchanged (is-buy (side-of (s .args .side))) 0 (c .before .before .before .before .before .before .value-of .ensures j) (c .before .before .before .before .before .tally-at .ensures j))) (c .before .if1 .taken)
 
 returns-2 : tie.Need-returns-2
-returns-2 c = new-granted (c .before .before .before .before .before .before .before .args .mem .now) (named-by (c .before .before .before .before .before .before .before .args .key)) (c .before .before .before .before .before .before .before .args .group) (c .before .before .before .before .before .before .before .pre .0) _ _ _ (c .before .before .before .before .before .before .before .args .sym) (c .before .before .before .before .before .before .before .args .side) (c .before .before .before .before .before .before .before .args .size) (c .before .before .before .before .before .before .before .args .price) (c .before .new-number .ensures) (c .before .before .find-symbol .ensures) (c .before .before .before .exchange .ensures ∙ (λ j. exchanged (is-buy (side-of (c .before .before .before .before .before .before .before .args .side))) 0 (c .before .before .before .before .before .value-of .ensures j) (c .before .before .before .before .tally-at .ensures j))) (c .if1 .left)
+returns-2 c = let s = c .before .before .before .before .before .before .before in new-granted (s .args .mem .now) (named-by (s .args .key)) (s .args .group) (s .pre .0) _ _ _ (s .args .sym) (s .args .side) (s .args .size) (s .args .price) (c .before .new-number .ensures) (c .before .before .find-symbol .ensures) (c .before .before .before .exchange .ensures ∙ (λ j. exchanged (is-buy (side-of (s .args .side))) 0 (c .before .before .before .before .before .value-of .ensures j) (c .before .before .before .before .tally-at .ensures j))) (c .if1 .left)
 
 pub new-ruling-spec : {M : Type 1} → statement M
 new-ruling-spec =

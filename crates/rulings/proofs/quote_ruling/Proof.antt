@@ -16,10 +16,10 @@ hold-requires : tie.Need-hold-requires
 hold-requires c κs = search needs
 
 returns : tie.Need-returns
-returns c = c .hold .ensures ∙ quote-held (c .before .before .before .before .before .args .mem .now) _ (c .before .before .before .before .before .args .sym) (c .before .before .before .before .before .args .bid) (c .before .before .before .before .before .args .offer) (c .before .before .before .find-symbol .ensures) (c .before .if1 .taken)
+returns c = let s = c .before .before .before .before .before in c .hold .ensures ∙ quote-held (s .args .mem .now) _ (s .args .sym) (s .args .bid) (s .args .offer) (c .before .before .before .find-symbol .ensures) (c .before .if1 .taken)
 
 returns-2 : tie.Need-returns-2
-returns-2 c = quote-granted (c .before .before .before .before .args .mem .now) _ (c .before .before .before .before .args .sym) (c .before .before .before .before .args .bid) (c .before .before .before .before .args .offer) (c .before .before .find-symbol .ensures) (c .if1 .left)
+returns-2 c = let s = c .before .before .before .before in quote-granted (s .args .mem .now) _ (s .args .sym) (s .args .bid) (s .args .offer) (c .before .before .find-symbol .ensures) (c .if1 .left)
 
 pub quote-ruling-spec : {M : Type 1} → statement M
 quote-ruling-spec =

@@ -1,33 +1,30 @@
 -- `rulings::reduction_at` meets its contract: the tally with the order worked, and the first check that holds.
 use borrow.Author.Needs.{needs}
 use Rattle.rulings.proofs.reduction_at.Statement.{statement}
-use mathlib.Core.Path.{sym, ap, _∙_, subst}
+use mathlib.Core.Path.{sym, _∙_, subst}
 use native.Mathlib.Omega.{arith}
-use Prim.Native.Nat.{_≤_}
-use Rattle.rulebook.specs.Kept.{Figures, worked, Tally, metrics}
-use Rattle.rulebook.specs.Lines.{ceiling}
-use Rattle.rulings.specs.Standing.{Small, held-bounds, held-small, held-done, worked-within, tally-after}
+use Rattle.rulebook.specs.Kept.{Figures}
+use Rattle.rulings.specs.Standing.{Small, held-bounds, old-small, worked-tally}
 use Rattle.rulings.specs.Granting.{reduction-ruled}
-use Rattle.books.specs.View.{rows-of, order-of}
 use Rattle.rulings.proofs.reduction_at.Tie as tie
 
 figures-at-requires : tie.Need-figures-at-requires
-figures-at-requires c κs = let b = held-bounds (c .before .args .mem .now) (c .before .args .group) (c .before .args .i) (c .before .pre .0) in (b .counts, b .room)
+figures-at-requires c κs = let s = c .before in let b = held-bounds (s .args .mem .now) (s .args .group) (s .args .i) (s .pre .0) in (b .counts, b .room)
 
 worked-requires : tie.Need-worked-requires
-worked-requires c κs = (subst (λ (f : Figures). f .done ≤ 1_000_000) (sym (c .figures-at .ensures)) (omega (arith, held-done (c .before .before .args .mem .now) (c .before .before .args .group) (c .before .before .args .i) (c .before .before .pre .0), held-small (c .before .before .args .mem .now) (c .before .before .args .group) (c .before .before .args .i) (c .before .before .pre .0))), c .before .before .pre .1)
+worked-requires c κs = let s = c .before .before in (old-small (s .args .mem .now) (s .args .group) (s .args .i) (s .pre .0) _ (c .figures-at .ensures) .1, s .pre .1)
 
 tally-with-requires : tie.Need-tally-with-requires
-tally-with-requires c κs = (c .before .before .before .pre .0, subst (λ (f : Figures). Small (f .size) (f .price)) (sym (c .worked .ensures ∙ ap (worked (c .before .before .before .args .size)) (c .before .figures-at .ensures))) (held-small (c .before .before .before .args .mem .now) (c .before .before .before .args .group) (c .before .before .before .args .i) (c .before .before .before .pre .0)))
+tally-with-requires c κs = let s = c .before .before .before in (s .pre .0, subst (λ (f : Figures). Small (f .size) (f .price)) (sym (c .worked .ensures)) (old-small (s .args .mem .now) (s .args .group) (s .args .i) (s .pre .0) _ (c .before .figures-at .ensures) .0))
 
 reduction-number-requires : tie.Need-reduction-number-requires
 reduction-number-requires c κs = search needs
 
 work-requires : tie.Need-work-requires
-work-requires c κs = let b = held-bounds (c .before .before .before .before .before .args .mem .now) (c .before .before .before .before .before .args .group) (c .before .before .before .before .before .args .i) (c .before .before .before .before .before .pre .0) in let w = subst (λ (t : Tally). metrics t .gross-both ≤ ceiling) (sym (c .before .tally-with .ensures ∙ ap (tally-after (rows-of (c .before .before .before .before .before .args .mem .now)) (c .before .before .before .before .before .args .group) (order-of (rows-of (c .before .before .before .before .before .args .mem .now)) (c .before .before .before .before .before .args .i))) (c .before .before .worked .ensures ∙ ap (worked (c .before .before .before .before .before .args .size)) (c .before .before .before .figures-at .ensures)))) (worked-within (c .before .before .before .before .before .args .mem .now) (c .before .before .before .before .before .args .group) (c .before .before .before .before .before .args .i) (c .before .before .before .before .before .pre .0) (c .before .before .before .before .before .args .size)) in record { long = b .counts .long; few = b .few; within = omega (arith, w) }
+work-requires c κs = let s = c .before .before .before .before .before in let b = held-bounds (s .args .mem .now) (s .args .group) (s .args .i) (s .pre .0) in let w = worked-tally (s .args .mem .now) (s .args .group) (s .args .i) (s .pre .0) (s .args .size) _ _ _ (c .before .before .before .figures-at .ensures) (c .before .before .worked .ensures) (c .before .tally-with .ensures) in record { long = b .counts .long; few = b .few; within = omega (arith, w) }
 
 returns : tie.Need-returns
-returns c = c .work .ensures ∙ reduction-ruled (c .before .before .before .before .before .before .args .mem .now) (c .before .before .before .before .before .before .args .group) (c .before .before .before .before .before .before .args .i) (c .before .before .before .before .before .before .pre .0) _ (c .before .before .before .before .figures-at .ensures) _ _ _ (c .before .before .before .before .before .before .args .size) (c .before .reduction-number .ensures) (c .before .before .before .worked .ensures) (c .before .before .tally-with .ensures)
+returns c = let s = c .before .before .before .before .before .before in c .work .ensures ∙ reduction-ruled (s .args .mem .now) (s .args .group) (s .args .i) (s .pre .0) _ (c .before .before .before .before .figures-at .ensures) _ _ _ (s .args .size) (c .before .reduction-number .ensures) (c .before .before .before .worked .ensures) (c .before .before .tally-with .ensures)
 
 pub reduction-at-spec : {M : Type 1} → statement M
 reduction-at-spec =

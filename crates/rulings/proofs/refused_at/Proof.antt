@@ -9,13 +9,13 @@ use Rattle.rulings.specs.Granting.{refused-ruled}
 use Rattle.rulings.proofs.refused_at.Tie as tie
 
 figures-at-requires : tie.Need-figures-at-requires
-figures-at-requires c κs = let b = held-bounds (c .before .args .mem .now) (c .before .args .group) (c .before .args .i) (c .before .pre) in (b .counts, b .room)
+figures-at-requires c κs = let s = c .before in let b = held-bounds (s .args .mem .now) (s .args .group) (s .args .i) (s .pre) in (b .counts, b .room)
 
 asking-requires : tie.Need-asking-requires
 asking-requires c κs = search needs
 
 tally-with-requires : tie.Need-tally-with-requires
-tally-with-requires c κs = (c .before .before .before .pre, subst (λ (f : Figures). Small (f .size) (f .price)) (sym (c .asking .ensures ∙ ap (asking false) (c .before .figures-at .ensures))) (held-small (c .before .before .before .args .mem .now) (c .before .before .before .args .group) (c .before .before .before .args .i) (c .before .before .before .pre)))
+tally-with-requires c κs = let s = c .before .before .before in (s .pre, subst (λ (f : Figures). Small (f .size) (f .price)) (sym (c .asking .ensures ∙ ap (asking false) (c .before .figures-at .ensures))) (held-small (s .args .mem .now) (s .args .group) (s .args .i) (s .pre)))
 
 refused-number-requires : tie.Need-refused-number-requires
 refused-number-requires c κs = search needs
@@ -24,7 +24,7 @@ amend-requires : tie.Need-amend-requires
 amend-requires c κs = search needs
 
 returns : tie.Need-returns
-returns c = c .amend .ensures ∙ refused-ruled (c .before .before .before .before .before .before .args .mem .now) (c .before .before .before .before .before .before .args .group) (c .before .before .before .before .before .before .args .i) (c .before .before .before .before .before .before .pre) _ (c .before .before .before .before .figures-at .ensures) _ _ _ (c .before .refused-number .ensures) (c .before .before .before .asking .ensures) (c .before .before .tally-with .ensures)
+returns c = let s = c .before .before .before .before .before .before in c .amend .ensures ∙ refused-ruled (s .args .mem .now) (s .args .group) (s .args .i) (s .pre) _ (c .before .before .before .before .figures-at .ensures) _ _ _ (c .before .refused-number .ensures) (c .before .before .before .asking .ensures) (c .before .before .tally-with .ensures)
 
 pub refused-at-spec : {M : Type 1} → statement M
 refused-at-spec =

@@ -15,34 +15,34 @@ use Rattle.books.specs.Layout.{side-at}
 use Rattle.rulings.proofs.tally_with.Tie as tie
 
 request-at-requires : tie.Need-request-at-requires
-request-at-requires c κs = let b = held-bounds (c .before .args .mem .now) (c .before .args .group) (c .before .args .i) (c .before .pre .0) in (b .counts, b .room)
+request-at-requires c κs = let s = c .before in let b = held-bounds (s .args .mem .now) (s .args .group) (s .args .i) (s .pre .0) in (b .counts, b .room)
 
 add-side : tie.Need-add-side
-add-side c = omega (arith, c .request-at .ensures, held-bounds (c .before .before .args .mem .now) (c .before .before .args .group) (c .before .before .args .i) (c .before .before .pre .0))
+add-side c = let s = c .before .before in omega (arith, c .request-at .ensures, held-bounds (s .args .mem .now) (s .args .group) (s .args .i) (s .pre .0))
 
 mul-side : tie.Need-mul-side
-mul-side c = omega (arith, c .request-at .ensures, held-bounds (c .before .before .args .mem .now) (c .before .before .args .group) (c .before .before .args .i) (c .before .before .pre .0))
+mul-side c = let s = c .before .before in omega (arith, c .request-at .ensures, held-bounds (s .args .mem .now) (s .args .group) (s .args .i) (s .pre .0))
 
 shared-slice-read-side : tie.Need-shared-slice-read-side
-shared-slice-read-side c = omega (arith, c .before .request-at .ensures, held-bounds (c .before .before .before .args .mem .now) (c .before .before .before .args .group) (c .before .before .before .args .i) (c .before .before .before .pre .0))
+shared-slice-read-side c = let s = c .before .before .before in omega (arith, c .before .request-at .ensures, held-bounds (s .args .mem .now) (s .args .group) (s .args .i) (s .pre .0))
 
 figures-at-requires : tie.Need-figures-at-requires
-figures-at-requires c κs = let b = held-bounds (c .before .before .before .args .mem .now) (c .before .before .before .args .group) (c .before .before .before .args .i) (c .before .before .before .pre .0) in (b .counts, b .room)
+figures-at-requires c κs = let s = c .before .before .before in let b = held-bounds (s .args .mem .now) (s .args .group) (s .args .i) (s .pre .0) in (b .counts, b .room)
 
 value-of-requires : tie.Need-value-of-requires
-value-of-requires c κs = subst (λ (f : Figures). Small (f .size) (f .price)) (sym (c .figures-at .ensures)) (held-small (c .before .before .before .before .args .mem .now) (c .before .before .before .before .args .group) (c .before .before .before .before .args .i) (c .before .before .before .before .pre .0))
+value-of-requires c κs = let s = c .before .before .before .before in subst (λ (f : Figures). Small (f .size) (f .price)) (sym (c .figures-at .ensures)) (held-small (s .args .mem .now) (s .args .group) (s .args .i) (s .pre .0))
 
 value-of-requires-2 : tie.Need-value-of-requires-2
 value-of-requires-2 c κs = search needs
 
 tally-at-requires : tie.Need-tally-at-requires
-tally-at-requires c κs = let b = held-bounds (c .before .before .before .before .before .before .args .mem .now) (c .before .before .before .before .before .before .args .group) (c .before .before .before .before .before .before .args .i) (c .before .before .before .before .before .before .pre .0) in (b .counts, b .few)
+tally-at-requires c κs = let s = c .before .before .before .before .before .before in let b = held-bounds (s .args .mem .now) (s .args .group) (s .args .i) (s .pre .0) in (b .counts, b .few)
 
 exchange-requires : tie.Need-exchange-requires
-exchange-requires c κs = subst (λ (t : Tally). Exchangeable (is-buy (side-of (getD (c .before .before .before .before .before .before .before .args .mem .now) (c .before .before .before .before .before .request-at .result + side-at) 0))) (c .before .before .value-of .result) (c .before .value-of2 .result) t) (sym (c .tally-at .ensures)) (rw (c .before .before .before .before .before .request-at .ensures, (c .before .before .value-of .ensures ∙ ap value-said (c .before .before .before .figures-at .ensures)), c .before .value-of2 .ensures) (held-exchangeable (c .before .before .before .before .before .before .before .args .mem .now) (c .before .before .before .before .before .before .before .args .group) (c .before .before .before .before .before .before .before .args .i) (c .before .before .before .before .before .before .before .pre .0) _ (value-small (c .before .before .before .before .before .before .before .args .new .size) (c .before .before .before .before .before .before .before .args .new .done) (c .before .before .before .before .before .before .before .args .new .price) (c .before .before .before .before .before .before .before .pre .1 .small) (c .before .before .before .before .before .before .before .pre .1 .cheap))))
+exchange-requires c κs = let s = c .before .before .before .before .before .before .before in subst (λ (t : Tally). Exchangeable (is-buy (side-of (getD (s .args .mem .now) (c .before .before .before .before .before .request-at .result + side-at) 0))) (c .before .before .value-of .result) (c .before .value-of2 .result) t) (sym (c .tally-at .ensures)) (rw (c .before .before .before .before .before .request-at .ensures, (c .before .before .value-of .ensures ∙ ap value-said (c .before .before .before .figures-at .ensures)), c .before .value-of2 .ensures) (held-exchangeable (s .args .mem .now) (s .args .group) (s .args .i) (s .pre .0) _ (value-small (s .args .new .size) (s .args .new .done) (s .args .new .price) (s .pre .1 .small) (s .pre .1 .cheap))))
 
 returns : tie.Need-returns
-returns c = c .exchange .ensures ∙ (λ j. exchanged (is-buy (side-of (getD (c .before .before .before .before .before .before .before .before .args .mem .now) (c .before .before .before .before .before .before .request-at .ensures j + side-at) 0))) ((c .before .before .before .value-of .ensures ∙ ap value-said (c .before .before .before .before .figures-at .ensures)) j) (c .before .before .value-of2 .ensures j) (c .before .tally-at .ensures j)) ∙ held-tally (c .before .before .before .before .before .before .before .before .args .mem .now) (c .before .before .before .before .before .before .before .before .args .group) (c .before .before .before .before .before .before .before .before .args .i) (c .before .before .before .before .before .before .before .before .pre .0) (figures-said (c .before .before .before .before .before .before .before .before .args .new))
+returns c = let s = c .before .before .before .before .before .before .before .before in c .exchange .ensures ∙ (λ j. exchanged (is-buy (side-of (getD (s .args .mem .now) (c .before .before .before .before .before .before .request-at .ensures j + side-at) 0))) ((c .before .before .before .value-of .ensures ∙ ap value-said (c .before .before .before .before .figures-at .ensures)) j) (c .before .before .value-of2 .ensures j) (c .before .tally-at .ensures j)) ∙ held-tally (s .args .mem .now) (s .args .group) (s .args .i) (s .pre .0) (figures-said (s .args .new))
 
 pub tally-with-spec : {M : Type 1} → statement M
 tally-with-spec =

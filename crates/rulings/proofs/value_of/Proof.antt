@@ -6,13 +6,13 @@ use Rattle.rulings.specs.Counting.{value-none, value-small}
 use Rattle.rulings.proofs.value_of.Tie as tie
 
 returns : tie.Need-returns
-returns c = value-none (c .before .before .args .f .size) (c .before .before .args .f .done) (c .before .before .args .f .price) (c .if1 .taken)
+returns c = let s = c .before .before in value-none (s .args .f .size) (s .args .f .done) (s .args .f .price) (c .if1 .taken)
 
 sub-result : tie.Need-sub-result
 sub-result c = search needs
 
 mul-result : tie.Need-mul-result
-mul-result c = omega (arith, value-small (c .before .before .before .before .args .f .size) (c .before .before .before .before .args .f .done) (c .before .before .before .before .args .f .price) (c .before .before .before .before .pre .small) (c .before .before .before .before .pre .cheap))
+mul-result c = let s = c .before .before .before .before in omega (arith, value-small (s .args .f .size) (s .args .f .done) (s .args .f .price) (s .pre .small) (s .pre .cheap))
 
 returns-2 : tie.Need-returns-2
 returns-2 c = search needs

@@ -17,26 +17,29 @@ abbrev μ-loop : tie.MeasureT-loop
 loop-holds : tie.Need-loop-holds Inv-loop μ-loop
 loop-holds c = (search needs, refl)
 
+mul-hint-of : tie.Need-mul-hint-of Inv-loop μ-loop
+mul-hint-of c = record { fits = omega (arith, row-room (c .before .before .before .before .pre .0) (c .before .loop .i) (c .loop-test .taken)) }
+
+add-hint-of : tie.Need-add-hint-of Inv-loop μ-loop
+add-hint-of c = record { fits = omega (arith, row-room (c .before .before .before .before .pre .0) (c .before .loop .i) (c .loop-test .taken)) }
+
+add-hint-of-2 : tie.Need-add-hint-of-2 Inv-loop μ-loop
+add-hint-of-2 c = record { fits = omega (arith, row-room (c .before .before .before .before .pre .0) (c .before .loop .i) (c .loop-test .taken)) }
+
+mul-hint-of-2 : tie.Need-mul-hint-of-2 Inv-loop μ-loop
+mul-hint-of-2 c = record { fits = omega (arith, row-room (c .before .before .before .before .pre .0) (c .before .loop .i) (c .loop-test .taken)) }
+
+shared-slice-read-hint-of : tie.Need-shared-slice-read-hint-of Inv-loop μ-loop
+shared-slice-read-hint-of c = omega (arith, row-room (c .before .before .before .before .before .pre .0) (c .before .before .loop .i) (c .before .loop-test .taken))
+
+hint-of-requires : tie.Need-hint-of-requires Inv-loop μ-loop
+hint-of-requires c κs = search needs
+
 cast-hints : tie.Need-cast-hints Inv-loop μ-loop
 cast-hints c = search needs
 
 mul-hints : tie.Need-mul-hints Inv-loop μ-loop
-mul-hints c = record { fits = omega (arith, row-room (c .before .before .pre .0) (c .before .loop .i) (c .loop-test .taken)) }
-
-add-hints : tie.Need-add-hints Inv-loop μ-loop
-add-hints c = record { fits = omega (arith, row-room (c .before .before .pre .0) (c .before .loop .i) (c .loop-test .taken)) }
-
-add-hints-2 : tie.Need-add-hints-2 Inv-loop μ-loop
-add-hints-2 c = record { fits = omega (arith, row-room (c .before .before .pre .0) (c .before .loop .i) (c .loop-test .taken)) }
-
-mul-hints-2 : tie.Need-mul-hints-2 Inv-loop μ-loop
-mul-hints-2 c = record { fits = omega (arith, row-room (c .before .before .pre .0) (c .before .loop .i) (c .loop-test .taken)) }
-
-shared-slice-read-hints : tie.Need-shared-slice-read-hints Inv-loop μ-loop
-shared-slice-read-hints c = omega (arith, row-room (c .before .before .before .pre .0) (c .before .before .loop .i) (c .before .loop-test .taken))
-
-mul-hints-3 : tie.Need-mul-hints-3 Inv-loop μ-loop
-mul-hints-3 c = search needs
+mul-hints c = search needs
 
 slice-write-hints : tie.Need-slice-write-hints Inv-loop μ-loop
 slice-write-hints c = search needs
@@ -63,13 +66,14 @@ hint-rows-spec =
     Inv-loop
     μ-loop
     loop-holds
+    mul-hint-of
+    add-hint-of
+    add-hint-of-2
+    mul-hint-of-2
+    shared-slice-read-hint-of
+    hint-of-requires
     cast-hints
     mul-hints
-    add-hints
-    add-hints-2
-    mul-hints-2
-    shared-slice-read-hints
-    mul-hints-3
     slice-write-hints
     add-i
     loop-less
