@@ -26,7 +26,7 @@ use Rattle.books.specs.Layout.{heads, groups, keys, requests, orders, la
 use Rattle.books.specs.View.{mpid-in, head-in, group-of, symbol-of, opens-of, order-of, orders-in, books-in, rows-of, view}
 use Rattle.books.specs.Writing.{bit, group-index, order-index, group-words, mark-words, key-words, request-words, figure-words, new-figures, order-stores, open-store, open-stores, group-stores, deed-stores, place-stores, stores, write}
 use Rattle.books.specs.Rules.{TidyGroup, TidyPlace, Summed, Valid}
-use Rattle.books.specs.Refining.{AptOrder, AptDeed, holds, Linked, Apt, asked-back, grown, group-found, order-found, After, deed-after, Counted, counts, length-write, write-shows}
+use Rattle.books.specs.Refining.{AptOrder, AptDeed, holds, Linked, Apt, asked-back, grown, group-found, order-found, After, deed-after, counts, length-write, write-shows}
 use Rattle.books.specs.Judged.{judged-apt, valid-counted, judged}
 
 -- ── what only words can break, of a sheet whose orders are os ──
@@ -227,7 +227,3 @@ kept m v x f =
       places-tidy = t .places-tidy;
       summed = λ i lt. subst (λ (b : Books). Summed (b .ledger .orders) (rows-of n groups i)) (sym (judged m v x)) (t .groups-kept i lt .1);
     }
-
--- and has its counts within it
-pub kept-counted : (m : List ℕ) → Valid m → (x : Record) → Formed x → Counted (write (judge (view m) x .edit) m)
-kept-counted m v x f = valid-counted _ (kept m v x f)

@@ -8,7 +8,6 @@ ghost use Rattle.laws.specs.Checks.{first};
 ghost use Rattle.rulebook.specs.Kept.{metrics, limit-checks, sized};
 ghost use Rattle.rulebook.specs.Judging.{new-checks, change-checks, cancel-checks, fill-checks, reduction-checks, refused-checks};
 ghost use Rattle.books.specs.View.{flag, group-of, rows-of};
-ghost use Rattle.books.specs.Refining.{Counted};
 ghost use Rattle.checks.specs.Saying.{figures-said, tally-said, order-said, symbol-at};
 ghost use Rattle.checks.specs.Trying.{Measurable, Quotable, Checkable, new-figures, order-with, is-over, off-quotes, is-barred, price-checks};
 ghost use Rattle.checks.specs.Protection.{table, row-at, row-said, terms};

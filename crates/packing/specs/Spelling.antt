@@ -7,14 +7,13 @@ use Prim.Native.Nat.{ℕ, zero, suc, _+_, _-_, _*_, _/_, _%_, _^_, _≤_, _<_}
 use native.Mathlib.Nat.{pow-succ', pow-le-pow-right}
 use native.Mathlib.Omega.{arith}
 use lib.ListN.{length, take, drop, getD, length-take, length-drop}
-use lib.Seq.{drop-cons, take-nil, take-all, take-take}
+use lib.Seq.{drop-cons, take-nil, take-take}
 use lib.Dec.{eqb}
 use borrow.Author.Tests.{eq-eqb, ne-eqb, eqb-true}
 use Rattle.laws.specs.Tests.{on}
 use Rattle.laws.specs.Tables.{All}
-use Rattle.rulebook.specs.Names.{word, ident-of, mpid-of}
-use Rattle.fields.specs.declared.Place.{Place}
-use Rattle.fields.specs.Parts.{stretch, said, every}
+use Rattle.rulebook.specs.Names.{word, ident-of}
+use Rattle.fields.specs.Parts.{every}
 use Rattle.fields.specs.Numbers.{below}
 use Rattle.fields.specs.Packing.{Solid, all-take, all-drop, thirds}
 use Rattle.packing.specs.Words.{spelt, unpacked}
@@ -116,14 +115,3 @@ drop-take (suc n) m (c ∷ cs) = let e : suc n + m ≡ suc (n + m) = omega arith
 
 pub first-packed : (cs : List ℕ) → record { head = word (take 8 cs); middle = word (take 8 (drop 8 cs)); tail = word (take 8 (drop 16 cs)) } ≡ ident-of (take 24 cs)
 first-packed cs = sym (rw (take-take 8 24 cs (omega arith), drop-take 8 16 cs, take-take 8 16 (drop 8 cs) (omega arith), drop-take 16 8 cs))
-
--- THEOREM. A place of at most so many bytes is packed whole
-pub said-whole : (n : ℕ) (l : List ℕ) (p : Place) → p .to - p .from ≤ n → take n (said l p) ≡ said l p
-unfolding stretch
-said-whole n l p h = take-all n _ (omega (arith, length-take (p .to - p .from) (drop (p .from) l)))
-
-pub ident-said : (l : List ℕ) (p : Place) → p .to - p .from ≤ 24 → ident-of (take 24 (said l p)) ≡ ident-of (said l p)
-ident-said l p h = ap ident-of (said-whole 24 l p h)
-
-pub mpid-said : (l : List ℕ) (p : Place) → p .to - p .from ≤ 4 → mpid-of (take 4 (said l p)) ≡ mpid-of (said l p)
-mpid-said l p h = ap mpid-of (said-whole 4 l p h)
