@@ -1,14 +1,45 @@
 -- Each public call's statement allows one answer, one memory and one buffer only. The claims are about the contracts themselves (`Post`).
-use mathlib.Core.Path.{sym, _∙_}
+use mathlib.Core.Path.{_≡_, refl, sym, ap, _∙_}
+use mathlib.Core.Bool.{cond}
+use lib.Dec.{eqb}
 use Rattle.calls.proofs.record.Kinds as record-kinds
 use Rattle.calls.proofs.record.Reads as record-reads
 use Rattle.calls.proofs.closing.Kinds as closing-kinds
 use Rattle.calls.proofs.closing.Reads as closing-reads
 use Rattle.fields.proofs.Single.{Once}
-use Rattle.calls.specs.Calling.{record-left, closing-left}
+use Rattle.calls.specs.Calling.{Said, answer-said, closing-said, Recorded, Closing}
+use Rattle.calls.specs.declared.Answered.{Answered}
+use Rattle.calls.specs.declared.Closed.{Closed}
 
-record-once : Once 3 record-kinds.ps record-kinds.r record-reads.Post (λ κs x s. record-left x (s .0 .now) (s .1 .1 .0 .now))
-record-once κs a x y s t p q = p ∙ sym q
+-- an answer is told by its number and its bytes
+abbrev answer-for : Said → Answered
+answer-for x = cond (eqb (x .number) 0) (Answered.Line (x .bytes)) (cond (eqb (x .number) 21) Answered.ShortBuffer Answered.BadState)
 
-closing-once : Once 2 closing-kinds.ps closing-kinds.r closing-reads.Post (λ κs x s. closing-left x (s .1 .1 .0 .now))
-closing-once κs a x y s t p q = p ∙ sym q
+answer-back : (x : Answered) → answer-for (answer-said x) ≡ x
+answer-back (Answered.Line n) = refl
+answer-back Answered.ShortBuffer = refl
+answer-back Answered.BadState = refl
+
+abbrev closing-for : Said → Closed
+closing-for x = cond (eqb (x .number) 0) (Closed.Line (x .bytes)) (cond (eqb (x .number) 21) Closed.ShortBuffer (cond (eqb (x .number) 22) Closed.BadState Closed.Unlisted))
+
+closing-back : (x : Closed) → closing-for (closing-said x) ≡ x
+closing-back (Closed.Line n) = refl
+closing-back Closed.ShortBuffer = refl
+closing-back Closed.BadState = refl
+closing-back Closed.Unlisted = refl
+
+record-once : Once 3 record-kinds.ps record-kinds.r record-reads.Post (λ κs x s. x)
+record-once κs a x y s t p q = sym (answer-back x) ∙ ap (λ (r : Recorded). answer-for (r .said)) (p ∙ sym q) ∙ answer-back y
+
+record-memory : Once 3 record-kinds.ps record-kinds.r record-reads.Post (λ κs x s. s .0 .now)
+record-memory κs a x y s t p q = ap (λ (r : Recorded). r .memory) (p ∙ sym q)
+
+record-buffer : Once 3 record-kinds.ps record-kinds.r record-reads.Post (λ κs x s. s .1 .1 .0 .now)
+record-buffer κs a x y s t p q = ap (λ (r : Recorded). r .buffer) (p ∙ sym q)
+
+closing-once : Once 2 closing-kinds.ps closing-kinds.r closing-reads.Post (λ κs x s. x)
+closing-once κs a x y s t p q = sym (closing-back x) ∙ ap (λ (r : Closing). closing-for (r .said)) (p ∙ sym q) ∙ closing-back y
+
+closing-buffer : Once 2 closing-kinds.ps closing-kinds.r closing-reads.Post (λ κs x s. s .1 .1 .0 .now)
+closing-buffer κs a x y s t p q = ap (λ (r : Closing). r .buffer) (p ∙ sym q)

@@ -1,11 +1,12 @@
 -- Document 01, "Outcomes" and "A whole day": what the public calls answer, and the memory and the buffer after each.
-use mathlib.Core.Bool.{cond}
+use mathlib.Core.Bool.{not, cond}
 use mathlib.Core.Option.{Option, Option·elim}
-use mathlib.Core.List.{List, _++_}
+use mathlib.Core.List.{List, [], _∷_, _++_}
 use Prim.Native.Nat.{ℕ}
 use Prim.Native.Char.{code}
-use lib.Dec.{ltb}
+use lib.Dec.{ltb, eqb}
 use lib.ListN.{length, drop, getElem?}
+use Rattle.laws.specs.Checks.{Check, _⇒_, first}
 use Rattle.rulebook.specs.Lines.{Record}
 use Rattle.rulebook.specs.Kept.{Group, tally}
 use Rattle.rulebook.specs.Judging.{Verdict, judge}
@@ -17,17 +18,36 @@ use Rattle.rules.specs.Testing.{state-ok}
 use Rattle.calls.specs.declared.Answered.{Answered}
 use Rattle.calls.specs.declared.Closed.{Closed}
 
--- ── document 01's numbers ──
-abbrev pub answered-number : Answered → ℕ
-answered-number (Answered.Line n) = 0
-answered-number Answered.ShortBuffer = 21
-answered-number Answered.BadState = 22
+-- ── what a call says ──
+-- a number of document 01 and no byte, or 0 and how many bytes were written
+pub record Said : Type 0 where
+  pub number : ℕ
+  pub bytes : ℕ
 
-abbrev pub closed-number : Closed → ℕ
-closed-number (Closed.Line n) = 0
-closed-number Closed.ShortBuffer = 21
-closed-number Closed.BadState = 22
-closed-number Closed.Unlisted = 5
+abbrev pub refuses : ℕ → Said
+refuses n = record { number = n; bytes = 0 }
+
+abbrev pub wrote : List ℕ → Said
+wrote cs = record { number = 0; bytes = length cs }
+
+abbrev pub answer-said : Answered → Said
+answer-said (Answered.Line n) = record { number = 0; bytes = n }
+answer-said Answered.ShortBuffer = refuses 21
+answer-said Answered.BadState = refuses 22
+
+abbrev pub closing-said : Closed → Said
+closing-said (Closed.Line n) = record { number = 0; bytes = n }
+closing-said Closed.ShortBuffer = refuses 21
+closing-said Closed.BadState = refuses 22
+closing-said Closed.Unlisted = refuses 5
+
+-- "21, 22": a buffer under so many bytes, a lent state that breaks a state rule or is too short
+abbrev pub refusals : ℕ → List ℕ → List ℕ → List Check
+refusals least m b = (ltb (length b) least ⇒ 21) ∷ (not (state-ok m) ⇒ 22) ∷ []
+
+-- a buffer that begins with these bytes, and past them is as it was found
+abbrev pub begun : List ℕ → List ℕ → List ℕ
+begun cs b = cs ++ drop (length cs) b
 
 -- ── one record ──
 -- the record that a lent line says
@@ -42,41 +62,37 @@ verdict-on m l = judge (view m) (said-by l)
 abbrev pub answer-to : List ℕ → List ℕ → List ℕ
 answer-to m l = let a = verdict-on m l .answer in answer-bytes l (reading l) (code (a .outcome)) (a .number) (a .sent)
 
--- a buffer that begins with these bytes, and past them is as it was found
-abbrev pub begun : List ℕ → List ℕ → List ℕ
-begun cs b = cs ++ drop (length cs) b
-
 -- what a call leaves
 pub record Recorded : Type 0 where
-  pub said : Answered
+  pub said : Said
   pub memory : List ℕ
   pub buffer : List ℕ
 
-abbrev pub record-left : Answered → List ℕ → List ℕ → Recorded
-record-left r m b = record { said = r; memory = m; buffer = b }
+abbrev pub record-left : Said → List ℕ → List ℕ → Recorded
+record-left x m b = record { said = x; memory = m; buffer = b }
 
--- "A record: 21, 22", which change nothing; then memory after is the verdict's edit written, and the buffer begins with its answer line
+-- refused, it changes nothing; else memory after is the verdict's edit written, and the buffer begins with its answer line
 unfoldable pub recorded : List ℕ → List ℕ → List ℕ → Recorded
-recorded m l b =
-    cond (ltb (length b) 32) (record-left Answered.ShortBuffer m b)
-    (cond (state-ok m) (record-left (Answered.Line (length (answer-to m l))) (write (verdict-on m l .edit) m) (begun (answer-to m l) b))
-    (record-left Answered.BadState m b))
+recorded m l b = let n = first (refusals 32 m b) in
+    cond (eqb n 0) (record-left (wrote (answer-to m l)) (write (verdict-on m l .edit) m) (begun (answer-to m l) b)) (record-left (refuses n) m b)
 
 -- ── a closing line ──
-pub record Closing : Type 0 where
-  pub said : Closed
-  pub buffer : List ℕ
-
-abbrev pub closing-left : Closed → List ℕ → Closing
-closing-left r b = record { said = r; buffer = b }
+-- "asked for by the group's place in listing order, from 0"
+abbrev pub group-at : List ℕ → ℕ → Option Group
+group-at m i = getElem? (view m .ledger .groups) i
 
 -- the bytes of a group's closing line
 abbrev pub closing-of : List ℕ → Group → List ℕ
 closing-of m g = let t = tally g (view m .ledger .orders) in closing-bytes (g .mpid .code) (t .tb) (t .ts) (t .ob) (t .os) (g .blocked)
 
+pub record Closing : Type 0 where
+  pub said : Said
+  pub buffer : List ℕ
+
+abbrev pub closing-left : Said → List ℕ → Closing
+closing-left x b = record { said = x; buffer = b }
+
 -- "21, 22, then 5 if no group has that place, which here writes nothing; it changes no state"
 unfoldable pub closed : List ℕ → ℕ → List ℕ → Closing
-closed m i b =
-    cond (ltb (length b) 96) (closing-left Closed.ShortBuffer b)
-    (cond (state-ok m) (Option·elim (getElem? (view m .ledger .groups) i) (closing-left Closed.Unlisted b) (λ g. closing-left (Closed.Line (length (closing-of m g))) (begun (closing-of m g) b)))
-    (closing-left Closed.BadState b))
+closed m i b = let n = first (refusals 96 m b) in
+    cond (eqb n 0) (Option·elim (group-at m i) (closing-left (refuses 5) b) (λ g. closing-left (wrote (closing-of m g)) (begun (closing-of m g) b))) (closing-left (refuses n) b)

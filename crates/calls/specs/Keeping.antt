@@ -1,19 +1,20 @@
 -- What the public calls keep, and what they write.
-use mathlib.Core.Path.{_≡_, refl, sym, ap, _∙_}
-use mathlib.Core.Bool.{true, false, cond}
+use mathlib.Core.Path.{_≡_, refl, sym, ap, _∙_, subst}
+use mathlib.Core.Bool.{true, false}
 use mathlib.Core.Option.{Option, none, some, Option·elim}
 use mathlib.Core.List.{List}
 use Prim.Native.Nat.{ℕ, _≤_, _<_}
 use native.Mathlib.Omega.{arith}
-use lib.Dec.{ltb}
-use lib.ListN.{length, replicate, getElem?}
+use native.Mathlib.Decide.{decLt}
+use lib.ListN.{length, replicate}
 use borrow.Author.Tests.{lt-ltb, le-ltb}
-use Rattle.laws.specs.Tests.{on}
+use Rattle.laws.specs.Checks.{first}
 use Rattle.rulebook.specs.Kept.{Group, tally}
 use Rattle.rulebook.specs.Outcomes.{answer-line, closing-line}
 use Rattle.rulebook.specs.Day.{step}
 use Rattle.fields.specs.Forms.{IsLine}
-use Rattle.fields.specs.Out.{Left, left, wrote, room-number}
+use Rattle.fields.specs.Out as out
+use Rattle.fields.specs.Out.{Left, left, room-number}
 use Rattle.fields.specs.Puts.{room}
 use Rattle.fields.specs.declared.Written.{Written}
 use Rattle.fields.specs.declared.Written.the-variants.{Bytes, NoRoom}
@@ -27,16 +28,14 @@ use Rattle.books.specs.Kept.{kept}
 use Rattle.store.specs.Making.{made-words, fresh-valid}
 use Rattle.rules.specs.Testing.{state-ok}
 use Rattle.rules.specs.Meaning.{exactly}
-use Rattle.calls.specs.Calling.{said-by, verdict-on, answer-to, begun, Recorded, record-left, recorded, closing-left, closing-of, closed}
-use Rattle.calls.specs.declared.Answered.{Answered}
-use Rattle.calls.specs.declared.Closed.{Closed}
+use Rattle.calls.specs.Calling.{refuses, wrote, begun, said-by, verdict-on, answer-to, Recorded, record-left, recorded, group-at, closing-left, closing-of, closed}
 
 -- ── a line that has room is written whole ──
 abbrev pub count-of : Written → ℕ
 count-of (Bytes n) = n
 count-of NoRoom = 0
 
-module _ (most : ℕ) (cs b after : List ℕ) (w : Written) (e : left after w ≡ wrote most cs b) (h : (length cs ≤ most) × (most ≤ length b)) where
+module _ (most : ℕ) (cs b after : List ℕ) (w : Written) (e : left after w ≡ out.wrote most cs b) (h : (length cs ≤ most) × (most ≤ length b)) where
   wrote-room : left after w ≡ left (begun cs b) (Bytes (length cs))
   wrote-room = e ∙ room most cs b (h .0) (omega arith)
 
@@ -55,27 +54,25 @@ module _ (most : ℕ) (cs b after : List ℕ) (w : Written) (e : left after w �
 -- ── one record ──
 module _ (m l b : List ℕ) where
   -- "21 to 23 are returned and write nothing"
-  pub short-buffer : length b < 32 → recorded m l b ≡ record-left Answered.ShortBuffer m b
-  unfolding recorded
+  pub short-buffer : length b < 32 → recorded m l b ≡ record-left (refuses 21) m b
+  unfolding recorded first
   short-buffer h = rw (lt-ltb (length b) 32 h) refl
 
-  pub bad-state : 32 ≤ length b → state-ok m ≡ false → recorded m l b ≡ record-left Answered.BadState m b
-  unfolding recorded
+  pub bad-state : 32 ≤ length b → state-ok m ≡ false → recorded m l b ≡ record-left (refuses 22) m b
+  unfolding recorded first
   bad-state h e = rw (le-ltb (length b) 32 h, e) refl
 
   -- and else the record is judged
-  pub judged-line : 32 ≤ length b → state-ok m ≡ true → recorded m l b ≡ record-left (Answered.Line (length (answer-to m l))) (write (verdict-on m l .edit) m) (begun (answer-to m l) b)
-  unfolding recorded
+  pub judged-line : 32 ≤ length b → state-ok m ≡ true → recorded m l b ≡ record-left (wrote (answer-to m l)) (write (verdict-on m l .edit) m) (begun (answer-to m l) b)
+  unfolding recorded first
   judged-line h e = rw (le-ltb (length b) 32 h, e) refl
-
-abbrev judged-part : List ℕ → List ℕ → List ℕ → Recorded
-judged-part m l b = record-left (Answered.Line (length (answer-to m l))) (write (verdict-on m l .edit) m) (begun (answer-to m l) b)
 
 -- THEOREM. A record leaves a state that meets the state rules, so 22 never follows from the gate's own work
 pub state-kept : (m l b : List ℕ) → state-ok m ≡ true → state-ok (recorded m l b .memory) ≡ true
-unfolding recorded
-state-kept m l b e = on (λ t. state-ok (cond t (record-left Answered.ShortBuffer m b) (cond (state-ok m) (judged-part m l b) (record-left Answered.BadState m b)) .memory) ≡ true) (ltb (length b) 32)
-    (λ q. e) (λ q. rw e (exactly (write (verdict-on m l .edit) m) .1 (kept m (exactly m .0 e) (said-by l) (read-formed l))))
+state-kept m l b e = elim (decLt (length b) 32) [
+  | yes h ↦ subst (λ (r : Recorded). state-ok (r .memory) ≡ true) (sym (short-buffer m l b h)) e
+  | no h ↦ subst (λ (r : Recorded). state-ok (r .memory) ≡ true) (sym (judged-line m l b (omega (arith, h)) e)) (exactly (write (verdict-on m l .edit) m) .1 (kept m (exactly m .0 e) (said-by l) (read-formed l)))
+]
 
 -- and a fresh state meets them
 pub fresh-state : (m : List ℕ) → least-words ≤ length m → state-ok (made-words m) ≡ true
@@ -92,23 +89,23 @@ answer-written m l e = gate-answer (view m) l (exactly m .0 e .sound)
 
 -- ── a closing line ──
 module _ (m : List ℕ) (i : ℕ) (b : List ℕ) where
-  pub closing-short-buffer : length b < 96 → closed m i b ≡ closing-left Closed.ShortBuffer b
-  unfolding closed
+  pub closing-short-buffer : length b < 96 → closed m i b ≡ closing-left (refuses 21) b
+  unfolding closed first
   closing-short-buffer h = rw (lt-ltb (length b) 96 h) refl
 
-  pub closing-bad-state : 96 ≤ length b → state-ok m ≡ false → closed m i b ≡ closing-left Closed.BadState b
-  unfolding closed
+  pub closing-bad-state : 96 ≤ length b → state-ok m ≡ false → closed m i b ≡ closing-left (refuses 22) b
+  unfolding closed first
   closing-bad-state h e = rw (le-ltb (length b) 96 h, e) refl
 
   -- "then 5 if no group has that place, which here writes nothing"
-  pub closing-unlisted : 96 ≤ length b → state-ok m ≡ true → getElem? (view m .ledger .groups) i ≡ none → closed m i b ≡ closing-left Closed.Unlisted b
-  unfolding closed Option·elim
+  pub closing-unlisted : 96 ≤ length b → state-ok m ≡ true → group-at m i ≡ none → closed m i b ≡ closing-left (refuses 5) b
+  unfolding closed first Option·elim
   closing-unlisted h e q = rw (le-ltb (length b) 96 h, e, q) refl
 
-  pub closing-line-of : (g : Group) → 96 ≤ length b → state-ok m ≡ true → getElem? (view m .ledger .groups) i ≡ some g → closed m i b ≡ closing-left (Closed.Line (length (closing-of m g))) (begun (closing-of m g) b)
-  unfolding closed Option·elim
+  pub closing-line-of : (g : Group) → 96 ≤ length b → state-ok m ≡ true → group-at m i ≡ some g → closed m i b ≡ closing-left (wrote (closing-of m g)) (begun (closing-of m g) b)
+  unfolding closed first Option·elim
   closing-line-of g h e q = rw (le-ltb (length b) 96 h, e, q) refl
 
 -- THEOREM. What is written is the rulebook's closing line, and has at most 96 bytes
-pub closing-written : (m : List ℕ) (i : ℕ) (g : Group) → state-ok m ≡ true → getElem? (view m .ledger .groups) i ≡ some g → IsLine (closing-line g (tally g (view m .ledger .orders))) (closing-of m g) × (length (closing-of m g) ≤ 96)
+pub closing-written : (m : List ℕ) (i : ℕ) (g : Group) → state-ok m ≡ true → group-at m i ≡ some g → IsLine (closing-line g (tally g (view m .ledger .orders))) (closing-of m g) × (length (closing-of m g) ≤ 96)
 closing-written m i g e q = gate-closing (view m) i g (exactly m .0 e .sound) q

@@ -3,7 +3,7 @@ ghost use mathlib.Core.Path.{_≡_};
 ghost use Prim.Native.Nat.{_≤_};
 ghost use lib.ListN.{length};
 ghost use Rattle.answers.specs.Answering.{answer-bytes, closing-bytes};
-ghost use Rattle.calls.specs.Calling.{begun, record-left, recorded, closing-left, closed};
+ghost use Rattle.calls.specs.Calling.{answer-said, closing-said, begun, record-left, recorded, closing-left, closed};
 use codec::Reading;
 use fields::Written;
 use store::Closing;
@@ -50,7 +50,7 @@ fn put_answer(
 // One record, lent as its line: 21 where the buffer has fewer than 32 bytes, 22 where the words break a state rule, and nothing is written.
 // Else the line is judged, what it changes is stored, and its answer line stands at the buffer's start.
 pub fn record(mem: &mut [u64], line: &[u8], to: &mut [u8]) -> Answered
-    ensures { λ r. ⌜ record-left r (now (mem .exit)) (now (to .exit)) ≡ recorded (now (mem .entry)) (now (line .entry)) (now (to .entry)) ⌝ }
+    ensures { λ r. ⌜ record-left (answer-said r) (now (mem .exit)) (now (to .exit)) ≡ recorded (now (mem .entry)) (now (line .entry)) (now (to .entry)) ⌝ }
 {
     if to.len() < ANSWER {
         return Answered::ShortBuffer;
@@ -88,7 +88,7 @@ fn put_closing(
 // The closing line of the group at a place in listing order, from 0: 21 where the buffer has fewer than 96 bytes, 22 where the words break a
 // state rule, 5 where no group has the place, and nothing is written. Else it stands at the buffer's start.
 pub fn closing(mem: &[u64], place: usize, to: &mut [u8]) -> Closed
-    ensures { λ r. ⌜ closing-left r (now (to .exit)) ≡ closed (now (mem .entry)) place (now (to .entry)) ⌝ }
+    ensures { λ r. ⌜ closing-left (closing-said r) (now (to .exit)) ≡ closed (now (mem .entry)) place (now (to .entry)) ⌝ }
 {
     if to.len() < CLOSING {
         return Closed::ShortBuffer;

@@ -1,13 +1,13 @@
 -- `calls::closing` meets its contract: 21, 22 and 5 write nothing, and a listed group's line has room.
 use borrow.Author.Needs.{needs}
 use Rattle.calls.proofs.closing.Statement.{statement}
-use mathlib.Core.Path.{sym, ap, _∙_, subst}
+use mathlib.Core.Path.{_≡_, refl, sym, ap, _∙_, subst}
 use borrow.Author.Tests.{not-true, not-false}
 use Rattle.books.specs.Judged.{valid-counted}
 use Rattle.rules.specs.Meaning.{exactly}
 use Rattle.calls.specs.Keeping.{closing-short-buffer, closing-bad-state}
 use Rattle.calls.specs.Totals.{closing-by, ShortLine, totals-closed, totals-short}
-use Rattle.calls.specs.Calling.{closing-left}
+use Rattle.calls.specs.Calling.{closing-said, closing-left}
 use Rattle.calls.proofs.closing.Tie as tie
 
 returns : tie.Need-returns
@@ -35,7 +35,7 @@ same-length : tie.Need-same-length
 same-length c = search needs
 
 returns-3 : tie.Need-returns-3
-returns-3 c = let s = c .before .before .before .before .before .before .before .before .before .before .before .before .before in (λ j. closing-left (c .before .before .put-closing .ensures .0 j) (c .before .before .put-closing .ensures .1 j)) ∙ sym (totals-closed (s .args .mem .now) (s .args .place) (sym (c .before .before .before .before .before .before .before .before .before .state-ok .ensures) ∙ not-false _ (c .before .before .before .before .before .before .before .before .if2 .left)) (s .args .to .now) (c .before .before .before .before .before .before .before .before .before .before .if1 .left) ∙ ap (λ x. closing-by x (s .args .to .now)) (sym (c .before .before .before .before .before .before .before .closing-totals .ensures) ∙ c .before .before .before .before .before .mpid .given .1))
+returns-3 c = let s = c .before .before .before .before .before .before .before .before .before .before .before .before .before in (λ j. closing-left (closing-said (c .before .before .put-closing .ensures .0 j)) (c .before .before .put-closing .ensures .1 j)) ∙ sym (totals-closed (s .args .mem .now) (s .args .place) (sym (c .before .before .before .before .before .before .before .before .before .state-ok .ensures) ∙ not-false _ (c .before .before .before .before .before .before .before .before .if2 .left)) (s .args .to .now) (c .before .before .before .before .before .before .before .before .before .before .if1 .left) ∙ ap (λ x. closing-by x (s .args .to .now)) (sym (c .before .before .before .before .before .before .before .closing-totals .ensures) ∙ c .before .before .before .before .before .mpid .given .1))
 
 returns-4 : tie.Need-returns-4
 returns-4 c = let s = c .before .before .before .before .before .before .before .before in sym (totals-closed (s .args .mem .now) (s .args .place) (sym (c .before .before .before .before .state-ok .ensures) ∙ not-false _ (c .before .before .before .if2 .left)) (s .args .to .now) (c .before .before .before .before .before .if1 .left) ∙ ap (λ x. closing-by x (s .args .to .now)) (sym (c .before .before .closing-totals .ensures) ∙ c .enum-told .given .1))

@@ -1,7 +1,7 @@
 -- `calls::put_answer` meets its contract: a line that has room is written whole.
 use borrow.Author.Needs.{needs}
 use Rattle.calls.proofs.put_answer.Statement.{statement}
-use mathlib.Core.Path.{ap}
+use mathlib.Core.Path.{_≡_, refl, sym, ap, _∙_, subst}
 use Rattle.calls.specs.Keeping.{line-begun, line-count, has-room}
 use Rattle.calls.specs.declared.Answered.{Answered}
 use Rattle.calls.proofs.put_answer.Tie as tie

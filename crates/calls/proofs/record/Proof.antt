@@ -1,16 +1,14 @@
 -- `calls::record` meets its contract: 21 and 22 write nothing; else the verdict's edit is stored, and its answer line has room.
 use borrow.Author.Needs.{needs}
 use Rattle.calls.proofs.record.Statement.{statement}
-use mathlib.Core.Path.{sym, _∙_, subst}
+use mathlib.Core.Path.{_≡_, refl, sym, ap, _∙_, subst}
 use borrow.Author.Tests.{not-true, not-false}
-use lib.ListN.{length}
 use Rattle.codec.specs.Lines.{InForm, read-in-form}
 use Rattle.rules.specs.Meaning.{exactly}
 use Rattle.edits.specs.Storing.{valid-last}
 use Rattle.calls.specs.Keeping.{short-buffer, bad-state, judged-line}
 use Rattle.calls.specs.Recording.{told}
-use Rattle.calls.specs.Calling.{begun, record-left}
-use Rattle.calls.specs.declared.Answered.{Answered}
+use Rattle.calls.specs.Calling.{answer-said, wrote, begun, record-left}
 use Rattle.calls.proofs.record.Tie as tie
 
 returns : tie.Need-returns
@@ -44,7 +42,7 @@ same-length-3 : tie.Need-same-length-3
 same-length-3 c = search needs
 
 returns-3 : tie.Need-returns-3
-returns-3 c = let s = c .before .before .before .before .before .before .before .before .before .before .before .before .before .before .before .before .before .before in let t = told (s .args .mem .now) (s .args .line .now) (sym (c .before .before .before .before .before .before .before .before .before .before .before .before .state-ok .ensures) ∙ not-false _ (c .before .before .before .before .before .before .before .before .before .before .before .if2 .left)) _ (c .before .before .before .before .before .before .before .before .before .before .read .ensures) _ (c .before .before .before .before .before .before .before .before .judge .ensures) in (λ j. record-left (c .before .before .put-answer .ensures .0 j) (c .before .before .before .before .before .before .write-edit .ensures j) (c .before .before .put-answer .ensures .1 j)) ∙ (λ j. record-left (Answered.Line (length (t .answer j))) (t .written j) (begun (t .answer j) (s .args .to .now))) ∙ sym (judged-line (s .args .mem .now) (s .args .line .now) (s .args .to .now) (c .before .before .before .before .before .before .before .before .before .before .before .before .before .before .if1 .left) (sym (c .before .before .before .before .before .before .before .before .before .before .before .before .state-ok .ensures) ∙ not-false _ (c .before .before .before .before .before .before .before .before .before .before .before .if2 .left)))
+returns-3 c = let s = c .before .before .before .before .before .before .before .before .before .before .before .before .before .before .before .before .before .before in let t = told (s .args .mem .now) (s .args .line .now) (sym (c .before .before .before .before .before .before .before .before .before .before .before .before .state-ok .ensures) ∙ not-false _ (c .before .before .before .before .before .before .before .before .before .before .before .if2 .left)) _ (c .before .before .before .before .before .before .before .before .before .before .read .ensures) _ (c .before .before .before .before .before .before .before .before .judge .ensures) in (λ j. record-left (answer-said (c .before .before .put-answer .ensures .0 j)) (c .before .before .before .before .before .before .write-edit .ensures j) (c .before .before .put-answer .ensures .1 j)) ∙ (λ j. record-left (wrote (t .answer j)) (t .written j) (begun (t .answer j) (s .args .to .now))) ∙ sym (judged-line (s .args .mem .now) (s .args .line .now) (s .args .to .now) (c .before .before .before .before .before .before .before .before .before .before .before .before .before .before .if1 .left) (sym (c .before .before .before .before .before .before .before .before .before .before .before .before .state-ok .ensures) ∙ not-false _ (c .before .before .before .before .before .before .before .before .before .before .before .if2 .left)))
 
 pub record-spec : {M : Type 1} → statement M
 record-spec =
