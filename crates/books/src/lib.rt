@@ -116,3 +116,21 @@ pub const ORDER_SIZE: usize = 1;
 pub const DONE: usize = 2;
 
 pub const CANCEL_ASKED: usize = 3;
+
+// The letters of requests' kinds and of sides, as in the line: B alone is a buy, and S, H and E are sells.
+pub const NEW: u64 = 78;
+
+pub const CHANGE: u64 = 77;
+
+pub const CANCEL: u64 = 67;
+
+pub const BLOCK: u64 = 66;
+
+pub const UNBLOCK: u64 = 82;
+
+pub const BUY: u64 = 66;
+
+pub const SELL: u64 = 83;
+
+// The most that a limit, a total or gross of both may be.
+pub const CEILING: u64 = 4_000_000_000_000_000_000;

@@ -6,7 +6,7 @@ use Prim.Native.Char.{code}
 use native.Mathlib.Omega.{arith}
 use lib.Dec.{eqb}
 use borrow.Author.Tests.{ne-eqb, lt-ltb}
-use Rattle.rulebook.specs.Lines.{Side, buy, sell, short, exempt, is-buy, is-short}
+use Rattle.rulebook.specs.Lines.{Side, buy, sell, short, exempt, is-short}
 use Rattle.fields.specs.Series.{side-of}
 use Rattle.books.specs.View.{flag}
 
@@ -14,17 +14,7 @@ use Rattle.books.specs.View.{flag}
 abbrev side-by : Bool → Bool → Bool → Side
 side-by b s h = cond b buy (cond s sell (cond h short exempt))
 
--- a letter that is not B is no buy
-pub buy-letter : (c : ℕ) → eqb c (code "B") ≡ is-buy (side-of c)
-buy-letter c = by (eqb c (code "B")) (eqb c (code "S")) (eqb c (code "H"))
-  where
-    by : (b s h : Bool) → b ≡ is-buy (side-by b s h)
-    by true s h = refl
-    by false true h = refl
-    by false false true = refl
-    by false false false = refl
-
--- and one that is neither B nor S is a short sale
+-- a letter that is neither B nor S is a short sale
 pub short-letter : (c : ℕ) → (not (eqb c (code "B")) && not (eqb c (code "S"))) ≡ is-short (side-of c)
 short-letter c = by (eqb c (code "B")) (eqb c (code "S")) (eqb c (code "H"))
   where

@@ -29,14 +29,6 @@ pub struct Tally {
     pub os: u64,
 }
 
-// "gross of both at most the ceiling".
-const CEILING: u64 = 4_000_000_000_000_000_000;
-
-// The letters of the sides that are no short sales.
-const BUY: u64 = 66;
-
-const SELL: u64 = 83;
-
 // A row of price protection: the prices below its bound, and what they are held to.
 struct Row {
     bound: u64,
@@ -153,7 +145,7 @@ fn too_far(price: u64, quote: u64, far: u64) -> bool
 fn is_buy(side: u64) -> bool
     ensures { λ r. ⌜ r ≡ is-buy (side-of side) ⌝ }
 {
-    side == BUY
+    side == books::BUY
 }
 
 // Whether price protection refuses an order: a buy by the offer, a sell by the bid.
@@ -241,10 +233,10 @@ fn price_number(mem: &[u64], group: usize, symbol: usize, t: Tally, side: u64, p
 fn is_barred(side: u64, mark: u64) -> bool
     ensures { λ r. ⌜ r ≡ is-barred (side-of side) (flag mark) ⌝ }
 {
-    if side == BUY {
+    if side == books::BUY {
         return false;
     }
-    if side == SELL {
+    if side == books::SELL {
         return false;
     }
     mark == 0
@@ -359,7 +351,7 @@ pub fn fill_number(t: Tally, f: Figures, size: u64) -> u64
     if size > f.size - f.done {
         return 19;
     }
-    if t.tb + t.ts + (t.ob + t.os) > CEILING {
+    if t.tb + t.ts + (t.ob + t.os) > books::CEILING {
         return 20;
     }
     0

@@ -34,17 +34,6 @@ use rulings::News;
 use store::Found;
 use store::Key;
 
-// The letters of the requests' kinds.
-const NEW: u64 = 78;
-
-const CHANGE: u64 = 77;
-
-const CANCEL: u64 = 67;
-
-const BLOCK: u64 = 66;
-
-const UNBLOCK: u64 = 82;
-
 // What a record is answered, and what it changes.
 pub struct Verdict {
     pub outcome: u8,
@@ -210,7 +199,7 @@ fn asking_of(deal: Deal) -> Asking
             size,
             price,
         } => Asking {
-            kind: NEW,
+            kind: books::NEW,
             target: none,
             sym,
             side,
@@ -222,7 +211,7 @@ fn asking_of(deal: Deal) -> Asking
             size,
             price,
         } => Asking {
-            kind: CHANGE,
+            kind: books::CHANGE,
             target,
             sym: 0,
             side: 0,
@@ -230,7 +219,7 @@ fn asking_of(deal: Deal) -> Asking
             price,
         },
         Deal::Cancel { target } => Asking {
-            kind: CANCEL,
+            kind: books::CANCEL,
             target,
             sym: 0,
             side: 0,
@@ -238,7 +227,7 @@ fn asking_of(deal: Deal) -> Asking
             price: 0,
         },
         Deal::Block => Asking {
-            kind: BLOCK,
+            kind: books::BLOCK,
             target: none,
             sym: 0,
             side: 0,
@@ -246,7 +235,7 @@ fn asking_of(deal: Deal) -> Asking
             price: 0,
         },
         Deal::Unblock => Asking {
-            kind: UNBLOCK,
+            kind: books::UNBLOCK,
             target: none,
             sym: 0,
             side: 0,

@@ -18,8 +18,6 @@ const MOST_SIZE: u64 = 1_000_000;
 
 const MOST_PRICE: u64 = 999_999_999_999;
 
-const CEILING: u64 = 4_000_000_000_000_000_000;
-
 // How many cells there are of limits, marks, totals, quotes and of a target, and of what an M, a C, and a B or R have not.
 const LIMITS: usize = books::MAX_SIZE - books::GROSS_TRADE;
 
@@ -36,17 +34,6 @@ const NOT_OF_CHANGE: usize = books::SIZE - books::SYMBOL;
 const NOT_OF_CANCEL: usize = books::REQUEST_WORDS - books::SYMBOL;
 
 const NOT_OF_BLOCK: usize = books::REQUEST_WORDS - books::TARGET;
-
-// The letters of the requests' kinds.
-const NEW: u64 = 78;
-
-const CHANGE: u64 = 77;
-
-const CANCEL: u64 = 67;
-
-const BLOCK: u64 = 66;
-
-const UNBLOCK: u64 = 82;
 
 // Whether each of n words from a place on is at most so much.
 fn within(mem: &[u64], at: usize, n: usize, most: u64) -> bool
@@ -95,12 +82,12 @@ fn totals_ok(mem: &[u64], i: usize) -> bool
     ensures { λ r. ⌜ r ≡ totals-ok (now (mem .entry)) i ⌝ }
 {
     let b = books::GROUPS + i * books::GROUP_WORDS;
-    if !within(mem, b + books::TRADED_BUYS, TOTALS, CEILING) {
+    if !within(mem, b + books::TRADED_BUYS, TOTALS, books::CEILING) {
         return false;
     }
     let traded = mem[b + books::TRADED_BUYS] + mem[b + books::TRADED_SELLS];
     let open = mem[b + books::OPEN_BUYS] + mem[b + books::OPEN_SELLS];
-    if traded + open > CEILING {
+    if traded + open > books::CEILING {
         return false;
     }
     if mem[books::OPENED] > 0 {
@@ -118,7 +105,7 @@ pub fn group_ok(mem: &[u64], i: usize) -> bool
     if !packing::is_mpid(mem[b + books::GROUP_MPID]) {
         return false;
     }
-    if !within(mem, b + books::GROSS_TRADE, LIMITS, CEILING) {
+    if !within(mem, b + books::GROSS_TRADE, LIMITS, books::CEILING) {
         return false;
     }
     if !packing::in_range(1, MOST_SIZE, mem[b + books::MAX_SIZE]) {
@@ -223,19 +210,19 @@ fn deal_ok(mem: &[u64], b: usize) -> bool
     ensures { λ r. ⌜ r ≡ deal-ok (now (mem .entry)) b ⌝ }
 {
     let kind = mem[b + books::KIND];
-    if kind == NEW {
+    if kind == books::NEW {
         return new_ok(mem, b);
     }
-    if kind == CHANGE {
+    if kind == books::CHANGE {
         return change_ok(mem, b);
     }
-    if kind == CANCEL {
+    if kind == books::CANCEL {
         return cancel_ok(mem, b);
     }
-    if kind == BLOCK {
+    if kind == books::BLOCK {
         return within(mem, b + books::TARGET, NOT_OF_BLOCK, 0);
     }
-    if kind == UNBLOCK {
+    if kind == books::UNBLOCK {
         return within(mem, b + books::TARGET, NOT_OF_BLOCK, 0);
     }
     false
@@ -269,7 +256,7 @@ pub fn opens(mem: &[u64], b: usize) -> bool
     requires { ⌜ HasRow (now mem) b ⌝ }
     ensures { λ r. ⌜ r ≡ is-order (now (mem .entry)) b ⌝ }
 {
-    if mem[b + books::KIND] != NEW {
+    if mem[b + books::KIND] != books::NEW {
         return false;
     }
     mem[b + books::NUMBER] == 0

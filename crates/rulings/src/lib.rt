@@ -28,9 +28,6 @@ use packing::Ident;
 use store::Found;
 use store::Key;
 
-// A buy's letter: the other sides are sells.
-const BUY: u64 = 66;
-
 // A number, and what is changed where it is 0.
 pub struct Ruling {
     pub number: u64,
@@ -147,7 +144,7 @@ fn exchange(side: u64, old: u64, new: u64, t: Tally) -> Tally
     requires { ⌜ Exchangeable (is-buy (side-of side)) old new (tally-said t) ⌝ }
     ensures { λ r. ⌜ tally-said r ≡ exchanged (is-buy (side-of side)) old new (tally-said t) ⌝ }
 {
-    if side == BUY {
+    if side == books::BUY {
         return Tally {
             tb: t.tb,
             ts: t.ts,
@@ -168,7 +165,7 @@ fn pay(side: u64, value: u64, t: Tally) -> Tally
     requires { ⌜ Payable value (tally-said t) ⌝ }
     ensures { λ r. ⌜ tally-said r ≡ paid (is-buy (side-of side)) value (tally-said t) ⌝ }
 {
-    if side == BUY {
+    if side == books::BUY {
         return Tally {
             tb: t.tb + value,
             ts: t.ts,
@@ -232,7 +229,7 @@ fn amend(number: u64, group: usize, i: usize, figures: Figures, t: Tally) -> Rul
     }
 }
 
-// An N judged: 8, 10, 11, 12, 13, 14, 15, or its order is counted.
+// An N judged: 8, 10, 11, 12, 13, 14, 15, or its order is counted. Whose it is and under which identifier, its key, is the contract's to say.
 fn new_ruling(
     mem: &[u64],
     group: usize,
@@ -406,7 +403,7 @@ fn reduction_at(mem: &[u64], group: usize, i: usize, size: u64) -> Ruling
     work(mem, checks::reduction_number(old, size), group, i, new, t)
 }
 
-// A B or an R: the block is set or lifted, and nothing stops it.
+// A B or an R of the desk that its key names: the block is set or lifted, and nothing stops it.
 fn block_ruling(mem: &[u64], group: usize, key: Key, blocked: bool) -> Ruling
     requires { ⌜ Desk (now mem) (mpid-word (key .owner)) group ⌝ }
     ensures { λ r. ⌜ r ≡ ruling-in-rows (rows-of (now (mem .entry))) (grant (deed stay (puts (blocking blocked (group-of (rows-of (now (mem .entry))) group))) stay)) ⌝ }

@@ -18,10 +18,6 @@ ghost use Rattle.state.specs.Summing.{Sums, Added, Due, Priced, value-at
 ghost use Rattle.state.specs.Whole.{Listed, Tallied, table-ok, listed-ok};
 ghost use Rattle.state.specs.Places.{figures-right, place-ok, desk-at};
 
-const CEILING: u64 = 4_000_000_000_000_000_000;
-
-const BUY: u64 = 66;
-
 // A row's first word.
 const FIRST: usize = 0;
 
@@ -182,7 +178,7 @@ fn slot_of(k: usize, side: u64) -> usize
     ensures slot { λ r. ⌜ r ≡ slot k (is-buy (side-of side)) ⌝ }
     ensures small { λ r. ⌜ r < 128 ⌝ }
 {
-    if side == BUY {
+    if side == books::BUY {
         return k;
     }
     books::MOST_GROUPS + k
@@ -202,7 +198,7 @@ fn add_value(mem: &[u64], i: usize, k: usize, sums: &mut [u64]) -> bool
     let v = value_of(mem, store::order_at(mem, i));
     let s = slot_of(k, mem[b + books::SIDE]);
     let t = sums[s] + v;
-    if t > CEILING {
+    if t > books::CEILING {
         return false;
     }
     sums[s] = t;
