@@ -95,10 +95,6 @@ module _ (m : List ℕ) where
       (λ l lt q. let z : _≡_ {A = ℕ} 0 1 = cc in absurd (omega arith)) (λ l le q. let z : _≡_ {A = ℕ} 0 1 = cc in absurd (omega arith)) e
 
   -- ── a notice ──
-  pub last-small : Valid m → head-in S last-at ≤ 4_294_967_295
-  unfolding books-in
-  last-small v = v .sound .last-fits
-
   pub notice-old : (n : ℕ) (w : News) → n ≤ head-in S last-at → judge-notice (view m) n w ≡ see
   unfolding judge-notice books-in
   notice-old n w h = rw (le-leb n (head-in S last-at) h) refl

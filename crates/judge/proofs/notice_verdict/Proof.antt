@@ -5,8 +5,9 @@ use mathlib.Core.Path.{sym, ap, _∙_}
 use native.Mathlib.Omega.{arith}
 use Rattle.books.specs.View.{rows-of}
 use Rattle.rulings.specs.Rulings.{news-said}
+use Rattle.edits.specs.Storing.{valid-last}
 use Rattle.judge.specs.Verdicts.{verdict-in-rows}
-use Rattle.judge.specs.Doors.{last-small, notice-old, notice-far, notice-next, booked}
+use Rattle.judge.specs.Doors.{notice-old, notice-far, notice-next, booked}
 use Rattle.judge.proofs.notice_verdict.Tie as tie
 
 shared-slice-read-last : tie.Need-shared-slice-read-last
@@ -19,7 +20,7 @@ returns : tie.Need-returns
 returns c = let m = c .before .before .before .before .args .mem .now in c .see .ensures (rows-of m) ∙ ap (verdict-in-rows (rows-of m)) (sym (notice-old m (c .before .before .before .before .args .number) (news-said (c .before .before .before .before .args .news)) (c .before .if1 .taken)))
 
 add-if2 : tie.Need-add-if2
-add-if2 c = omega (arith, last-small (c .before .before .before .args .mem .now) (c .before .before .before .pre .0))
+add-if2 c = omega (arith, valid-last (c .before .before .before .args .mem .now) (c .before .before .before .pre .0))
 
 reply-requires : tie.Need-reply-requires
 reply-requires c κs = search needs
