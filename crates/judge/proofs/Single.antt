@@ -1,4 +1,4 @@
--- The public call's statement allows one answer only. The claim is about the contract itself (`Post`).
+-- The statement of `judge`, which the public call `calls::record` stands on, allows one answer only. The claim is about the contract itself (`Post`).
 use mathlib.Core.Path.{sym, _∙_}
 use Rattle.judge.proofs.judge.Kinds as judge-kinds
 use Rattle.judge.proofs.judge.Reads as judge-reads

@@ -417,6 +417,7 @@ fn judge_notice(mem: &[u64], number: u64, news: News) -> Verdict
 }
 
 // The verdict on a record that is read from the line: 1 where it is broken, and else as its kind is judged.
+// It is for `calls::record` alone, which has tried the words and read the line before, and is not offered to a host.
 pub fn judge(mem: &[u64], line: &[u8], rec: Reading) -> Verdict
     requires { ⌜ Valid (now mem) ⌝ }
     requires { ⌜ InForm (now line) rec ⌝ }
