@@ -12,15 +12,15 @@ use Rattle.fields.specs.Parts.{stretch, span, field-at, every, has-form, end-at
 use Rattle.codec.specs.Readings.{record-of, form-number, read-as, read-line, reading}
 
 -- "Tabs are shown as spaces": a line as the paper prints it
-abbrev shown : String → List ℕ
-shown s = map (λ c. cond (eqb c 32) 9 c) (bytes s) ++ (10 ∷ [])
+abbrev pub printed : String → List ℕ
+printed s = map (λ c. cond (eqb c 32) 9 c) (bytes s) ++ (10 ∷ [])
 
-computing : Unit {0}
+pub computing : Unit {0}
 unfolding word digit-step number-of stretch span field-at every has-form end-at ended read-as read-line reading
 computing = tt
 
--- THEOREM. The lines of document 01's day are read as its records
-pub sample-read : map (λ s. record-of (shown s) (reading (shown s))) (
+abbrev pub sample-lines : List (List ℕ)
+sample-lines = map printed (
     "G ABCD 5000000000 5000000000 2000000000 2000000000 6000000000 6000000000 25000 N"
     ∷ "S 7"
     ∷ "O"
@@ -37,12 +37,15 @@ pub sample-read : map (λ s. record-of (shown s) (reading (shown s))) (
     ∷ "D 3 ABCD T1 60"
     ∷ "M T4 ABCD T1 100 10000000"
     ∷ []
-    ) ≡ sample
+    )
+
+-- THEOREM. The lines of document 01's day are read as its records
+pub sample-read : map (λ l. record-of l (reading l)) sample-lines ≡ sample
 unfolding computing sample
 sample-read = refl
 
 -- THEOREM. These break a form
-pub broken-lines : map (λ s. form-number (reading (shown s))) (
+pub broken-lines : map (λ s. form-number (reading (printed s))) (
     ""
     ∷ "O "
     ∷ "S"

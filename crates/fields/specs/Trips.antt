@@ -150,7 +150,7 @@ back (t ∷ ts) l at g h z = on (λ b. has-form t (field-at l at) ≡ b → Goal
 
 -- ── written then read ──
 -- a field in its form has neither tab nor LF
-abbrev clear : ℕ → Bool
+abbrev pub clear : ℕ → Bool
 clear c = not (ends c)
 
 class-clear : (t : ℕ → Bool) (c : ℕ) → t 9 ≡ false → t 10 ≡ false → t c ≡ true → clear c ≡ true
@@ -231,6 +231,10 @@ good-blank (text least most t x) = refl
 good-blank (letter set c) = refl
 good-blank (number low high n) = refl
 
+-- and so neither tab nor LF
+pub says-clear : (t : Field) (f : List ℕ) → good t ≡ true → Says t f → every clear f ≡ true
+says-clear t f g s = has-clear (blank t) f (good-blank t ∙ g) (says-has t f g s)
+
 -- fields that are written are read: they end before the last byte, and each value is the field's own
 pub forth : (ys : List Field) (fs : List (List ℕ)) (pre l : List ℕ) → goods ys ≡ true → Each Says ys fs → l ≡ pre ++ tails fs
     → (length l - end-of (map blank ys) l (length pre) ≡ 1) × Each (Holds l) ys (values (map blank ys) l (length pre))
@@ -242,7 +246,7 @@ forth (y ∷ ys) (f ∷ fs) pre l g s q =
     let gs = goods-parts y ys g in
     let gb : good (blank y) ≡ true = good-blank y ∙ gs .0 in
     let ok : has-form (blank y) f ≡ true = says-has y f (gs .0) (s .0) in
-    let w : field-at l (length pre) ≡ f = field-written pre f fs l (has-clear (blank y) f gb ok) q in
+    let w : field-at l (length pre) ≡ f = field-written pre f fs l (says-clear y f (gs .0) (s .0)) q in
     let okp : has-form (blank y) (field-at l (length pre)) ≡ true = rw w ok in
     let e : end-at (blank y) l (length pre) ≡ length (pre ++ (9 ∷ f)) = end-has (blank y) l (length pre) okp ∙ rw (w, length-append) (omega arith) in
     let ih = forth ys fs (pre ++ (9 ∷ f)) l (gs .1) (s .1) (q ∙ sym (append-assoc pre (9 ∷ f) (tails fs))) in

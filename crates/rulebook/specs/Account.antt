@@ -45,14 +45,26 @@ news-effect (fill k z p) = moves k (less z) (z * p)
 news-effect (reduction k z) = moves k (less z) 0
 news-effect (cancel-refused k) = no-effect
 
+-- what a line of the list and its answer line tell: the record, the outcome's byte, and the messages sent
+pub record Told : Type 0 where
+  pub line : Record
+  pub outcome : ℕ
+  pub sent : ℕ
+
+abbrev pub told : Entry → Told
+told e = record { line = e .line; outcome = code (e .answer .outcome); sent = e .answer .sent }
+
 -- a request counts if it was sent, a notice if it was booked
+abbrev pub effect-of : Record → (outcome sent : ℕ) → Effect
+effect-of broken o s = no-effect
+effect-of (group m t) o s = no-effect
+effect-of (symbol i) o s = no-effect
+effect-of open-day o s = no-effect
+effect-of (ask r) o s = cond (eqb s 0) no-effect (deal-effect (r .key) (r .deal))
+effect-of (tell n w) o s = cond (eqb o (code "K")) (news-effect w) no-effect
+
 abbrev pub effect : Record → Answer → Effect
-effect broken a = no-effect
-effect (group m t) a = no-effect
-effect (symbol s) a = no-effect
-effect open-day a = no-effect
-effect (ask r) a = cond (eqb (a .sent) 0) no-effect (deal-effect (r .key) (r .deal))
-effect (tell n w) a = cond (eqb (code (a .outcome)) (code "K")) (news-effect w) no-effect
+effect x a = effect-of x (code (a .outcome)) (a .sent)
 
 abbrev pub tickets : Effect → List Ticket
 tickets no-effect = []
@@ -85,9 +97,22 @@ abbrev pub fills : Mpid → Bool → List Ticket → List Effect → ℕ
 fills m b ts [] = 0
 fills m b ts (e ∷ h) = pays m b ts e + fills m b (ts ++ tickets e) h
 
-abbrev pub effects : List Entry → List Effect
-effects h = map (λ e. effect (e .line) (e .answer)) h
+abbrev pub effects : List Told → List Effect
+effects h = map (λ t. effect-of (t .line) (t .outcome) (t .sent)) h
 
 -- a desk's traded and open values
-abbrev pub account : Mpid → List Entry → Tally
+abbrev pub account : Mpid → List Told → Tally
 account m h = record { tb = fills m true [] (effects h); ts = fills m false [] (effects h); ob = left-open m true (effects h); os = left-open m false (effects h) }
+
+-- the desks that have these: a G that passed lists one
+abbrev pub listing : Record → (outcome : ℕ) → List Mpid
+listing broken o = []
+listing (group m t) o = cond (eqb o (code "P")) (m ∷ []) []
+listing (symbol i) o = []
+listing open-day o = []
+listing (ask r) o = []
+listing (tell n w) o = []
+
+abbrev pub desks : List Told → List Mpid
+desks [] = []
+desks (t ∷ h) = listing (t .line) (t .outcome) ++ desks h

@@ -192,11 +192,11 @@ linked-step m b k x =
     let l : Linked (noted (marks b (m .seen)) x) (step b x) = record { opened = step-marks b (m .seen) x .0; last = step-marks b (m .seen) x .1; seen = step-seen b (m .seen) x a } in
     subst (λ z. Linked (noted z x) (step b x)) e l
 
-linked-run : (m : Marks) (b : Books) → Linked m b → (xs : List Record) → Linked (foldl noted m xs) (run b xs)
+pub linked-run : (m : Marks) (b : Books) → Linked m b → (xs : List Record) → Linked (foldl noted m xs) (run b xs)
 linked-run m b k [] = k
 linked-run m b k (x ∷ xs) = linked-run (noted m x) (step b x) (linked-step m b k x) xs
 
-fresh-linked : (n : ℕ) → Linked no-marks (fresh-books n)
+pub fresh-linked : (n : ℕ) → Linked no-marks (fresh-books n)
 unfolding fresh-books
 fresh-linked n = record { opened = refl; last = refl; seen = tt }
 

@@ -17,7 +17,7 @@ use Rattle.rulebook.specs.Kept.{Figures, Ticket, Order, Group, Asked, Le
 use Rattle.rulebook.specs.Outcomes.{Answer, closing-line, closing}
 use Rattle.rulebook.specs.Judging.{Deed, deed, enact, named, apply, Ruling, deal-ruling, news-ruling, reply, messages, remember, book, judge}
 use Rattle.rulebook.specs.Day.{step, run, log, rest}
-use Rattle.rulebook.specs.Account.{Left, left-value, Effect, no-effect, opens, moves, deal-effect, news-effect, effect, less, tickets, after, leaves, left-open, pays, fills, effects, account}
+use Rattle.rulebook.specs.Account.{Told, Left, left-value, Effect, no-effect, opens, moves, deal-effect, news-effect, effect-of, effect, listing, desks, told, less, tickets, after, leaves, left-open, pays, fills, effects, account}
 use Rattle.rulebook.specs.Rules.{tickets-at, tickets-in}
 use Rattle.rulebook.specs.Cases.{number-not, kept-number, judge-cases, deal-cases, Seen, news-cases}
 use Rattle.rulebook.specs.Retries.{Closed, deal-closed, news-closed, same-books}
@@ -280,6 +280,10 @@ run-tidy b [] t = t
 run-tidy b (x ∷ xs) t = run-tidy (step b x) xs (tidy-step b x t)
 
 -- ── a day ──
+-- what its records and answers tell
+abbrev pub tells : Books → List Record → List Told
+tells b xs = map told (log b xs)
+
 -- what a ticket counts for when h is still to come
 abbrev to-come : Mpid → Bool → List Effect → Ticket → Left → ℕ
 to-come m c h t l = cond (is-of m c t) (left-value (foldl (after (t .key)) l h)) 0
@@ -289,10 +293,10 @@ unfolding worth open-value
 worth-now m c os = refl
 
 open-run : (m : Mpid) (c : Bool) (b : Books) (xs : List Record) → Tidy b →
-    sum (worth m c) (run b xs .ledger .orders) ≡ sum (of-order (to-come m c (effects (log b xs)))) (b .ledger .orders) + left-open m c (effects (log b xs))
+    sum (worth m c) (run b xs .ledger .orders) ≡ sum (of-order (to-come m c (effects (tells b xs)))) (b .ledger .orders) + left-open m c (effects (tells b xs))
 open-run m c b [] t = omega (arith, worth-now m c (b .ledger .orders))
 open-run m c b (x ∷ xs) t =
-    let e = effect x (judge b x .answer) in let h = effects (log (step b x) xs) in
+    let e = effect x (judge b x .answer) in let h = effects (tells (step b x) xs) in
     omega (arith, open-run m c (step b x) xs (tidy-step b x t), acts b x .counts (orders-apart b t) (to-come m c h), leaves-is m c h e)
   where
     leaves-is : (m : Mpid) (c : Bool) (h : List Effect) (e : Effect) → of-opened (to-come m c h) e ≡ leaves m c h e
@@ -300,26 +304,56 @@ open-run m c b (x ∷ xs) t =
     leaves-is m c h (opens t l) = refl
     leaves-is m c h (moves k f v) = refl
 
-traded-run : (m : Mpid) (c : Bool) (b : Books) (xs : List Record) (ts : List Ticket) → map ticket-of (b .ledger .orders) ≡ ts → total m c (run b xs .ledger .groups) ≡ total m c (b .ledger .groups) + fills m c ts (effects (log b xs))
+traded-run : (m : Mpid) (c : Bool) (b : Books) (xs : List Record) (ts : List Ticket) → map ticket-of (b .ledger .orders) ≡ ts → total m c (run b xs .ledger .groups) ≡ total m c (b .ledger .groups) + fills m c ts (effects (tells b xs))
 traded-run m c b [] ts q = omega arith
 traded-run m c b (x ∷ xs) ts q =
     let e = effect x (judge b x .answer) in
     omega (arith, traded-run m c (step b x) xs (ts ++ tickets e) (acts b x .grown ∙ ap (λ z. z ++ tickets e) q), acts b x .paid m c, ap (λ z. pays m c z e) q)
 
--- a listed desk's totals after a day, from its records and answers
-account-run : (n : ℕ) (xs : List Record) (i : ℕ) (g : Group) → getElem? (run (fresh-books n) xs .ledger .groups) i ≡ some g →
-    tally g (run (fresh-books n) xs .ledger .orders) ≡ account (g .mpid) (log (fresh-books n) xs)
+-- THEOREM. A listed desk's totals after a day are what its records and answers say
+pub account-run : (n : ℕ) (xs : List Record) (i : ℕ) (g : Group) → getElem? (run (fresh-books n) xs .ledger .groups) i ≡ some g →
+    tally g (run (fresh-books n) xs .ledger .orders) ≡ account (g .mpid) (tells (fresh-books n) xs)
 unfolding fresh-books look
 account-run n xs i g e =
     let b = run (fresh-books n) xs in
     let f : look by-mpid (g .mpid) (b .ledger .groups) ≡ some g = look-at by-mpid (b .ledger .groups) i (run-tidy (fresh-books n) xs (fresh-tidy n) .groups-apart) e in
-    let trades : (c : Bool) → traded-of c g ≡ fills (g .mpid) c [] (effects (log (fresh-books n) xs)) = λ c. omega (arith, ap (total-of c) f, traded-run (g .mpid) c (fresh-books n) xs [] refl) in
-    let leaves : (c : Bool) → sum (worth (g .mpid) c) (b .ledger .orders) ≡ left-open (g .mpid) c (effects (log (fresh-books n) xs)) = λ c. omega (arith, open-run (g .mpid) c (fresh-books n) xs (fresh-tidy n)) in
+    let trades : (c : Bool) → traded-of c g ≡ fills (g .mpid) c [] (effects (tells (fresh-books n) xs)) = λ c. omega (arith, ap (total-of c) f, traded-run (g .mpid) c (fresh-books n) xs [] refl) in
+    let leaves : (c : Bool) → sum (worth (g .mpid) c) (b .ledger .orders) ≡ left-open (g .mpid) c (effects (tells (fresh-books n) xs)) = λ c. omega (arith, open-run (g .mpid) c (fresh-books n) xs (fresh-tidy n)) in
     λ j. record { tb = trades true j; ts = trades false j; ob = leaves true j; os = leaves false j }
 
 -- THEOREM. The closing line of every group shows what the struck list, with its answers, says of its desk
 pub closing-account : (n : ℕ) (xs : List Record) (i : ℕ) →
-    closing (run (fresh-books n) xs) i ≡ Option·map (λ g. closing-line g (account (g .mpid) (log (fresh-books n) (rest xs)))) (getElem? (run (fresh-books n) xs .ledger .groups) i)
-closing-account n xs i = subst (λ b. closing b i ≡ Option·map (λ g. closing-line g (account (g .mpid) (log (fresh-books n) (rest xs)))) (getElem? (b .ledger .groups) i)) (sym (same-books n xs))
-    (opt (λ o. Option·map (λ g. closing-line g (tally g (run (fresh-books n) (rest xs) .ledger .orders))) o ≡ Option·map (λ g. closing-line g (account (g .mpid) (log (fresh-books n) (rest xs)))) o)
+    closing (run (fresh-books n) xs) i ≡ Option·map (λ g. closing-line g (account (g .mpid) (tells (fresh-books n) (rest xs)))) (getElem? (run (fresh-books n) xs .ledger .groups) i)
+closing-account n xs i = subst (λ b. closing b i ≡ Option·map (λ g. closing-line g (account (g .mpid) (tells (fresh-books n) (rest xs)))) (getElem? (b .ledger .groups) i)) (sym (same-books n xs))
+    (opt (λ o. Option·map (λ g. closing-line g (tally g (run (fresh-books n) (rest xs) .ledger .orders))) o ≡ Option·map (λ g. closing-line g (account (g .mpid) (tells (fresh-books n) (rest xs)))) o)
     (getElem? (run (fresh-books n) (rest xs) .ledger .groups) i) (λ e. refl) (λ g e. ap (λ t. some (closing-line g t)) (account-run n (rest xs) i g e)))
+
+-- ── the desks ──
+early-lists : (x : Record) (n : ℕ) → eqb n 0 ≡ false → listing x (code (reply n .answer .outcome)) ≡ []
+early-lists broken n h = refl
+early-lists open-day n h = refl
+early-lists (group m t) n h = ap (λ z. cond (eqb (code (cond z "P" "R")) (code "P")) (m ∷ []) []) h
+early-lists (symbol s) n h = refl
+early-lists (ask r) n h = refl
+early-lists (tell k w) n h = refl
+
+lists : (b : Books) (x : Record) → keys by-mpid (step b x .ledger .groups) ≡ keys by-mpid (b .ledger .groups) ++ listing x (code (judge b x .answer .outcome))
+unfolding apply enact
+lists b x = judge-cases b (λ x v. keys by-mpid (apply (v .edit) b .ledger .groups) ≡ here ++ listing x (code (v .answer .outcome))) (record {
+  on-early = λ x n j q. sym (ap (λ l. here ++ l) (early-lists x n (number-not n j)) ∙ append-nil here);
+  on-open = λ h. sym (append-nil here);
+  on-group = λ m t h q k. map-append (by-mpid .key) (b .ledger .groups) (new-group m t ∷ []);
+  on-symbol = λ m h q k. sym (append-nil here);
+  on-known = λ r n h q. sym (append-nil here);
+  on-new = λ r g h f. keys-steady by-mpid (deal-ruling (b .ledger) g (r .key) (r .deal) .deed .group) (b .ledger .groups) (deal-closed (b .ledger) g r .0) ∙ sym (append-nil here);
+  on-seen = λ n w h q. sym (append-nil here);
+  on-next = λ n w h q. keys-steady by-mpid (news-ruling (b .ledger) w .deed .group) (b .ledger .groups) (news-closed (b .ledger) w .0) ∙ sym (append-nil here);
+}) x
+  where
+    here : List Mpid
+    here = keys by-mpid (b .ledger .groups)
+
+-- THEOREM. The groups are listed in the order of the G's that passed, and there are no others
+pub listed : (b : Books) (xs : List Record) → keys by-mpid (run b xs .ledger .groups) ≡ keys by-mpid (b .ledger .groups) ++ desks (tells b xs)
+listed b [] = sym (append-nil (keys by-mpid (b .ledger .groups)))
+listed b (x ∷ xs) = listed (step b x) xs ∙ ap (λ l. l ++ desks (tells (step b x) xs)) (lists b x) ∙ append-assoc (keys by-mpid (b .ledger .groups)) _ _

@@ -1,0 +1,11 @@
+-- Demand 3: what it is about
+pub mod Day
+-- why it holds
+pub mod Showing
+pub mod Striking
+pub mod Carrying
+pub mod Closing
+pub mod Attempts
+pub mod Fresh
+-- and what it says
+pub mod Promises

@@ -1,0 +1,1 @@
+// Demand 3 over the public calls, all in specs/: no function.
