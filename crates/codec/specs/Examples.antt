@@ -15,7 +15,7 @@ use Rattle.codec.specs.Readings.{record-of, form-number, read-as, read-l
 abbrev pub printed : String → List ℕ
 printed s = map (λ c. cond (eqb c 32) 9 c) (bytes s) ++ (10 ∷ [])
 
-pub computing : Unit {0}
+unfoldable pub computing : Unit {0}
 unfolding word digit-step number-of stretch span field-at every has-form end-at ended read-as read-line reading
 computing = tt
 

@@ -2,7 +2,7 @@
 use mathlib.Core.Path.{_≡_, refl, sym, ap, _∙_, subst}
 use mathlib.Core.Bool.{Bool, true, false, cond, false≢true}
 use mathlib.Core.Option.{Option, none, some, Option·map, Option·none-ne-some, Option·some-injective}
-use mathlib.Core.List.{List, [], _∷_, _++_, map}
+use mathlib.Core.List.{List, [], _∷_, _++_, map, cons≢nil, head-eq-of-cons-eq, tail-eq-of-cons-eq}
 use Prim.Native.Nat.{ℕ, zero, suc, _+_, _≤_}
 use native.Mathlib.Omega.{arith}
 use lib.ListN.{length, length-map, getElem?}
@@ -34,6 +34,10 @@ module _ {A : Type 0} where
   pub all-both : (P : A → Type 0) (xs ys : List A) → All P xs → All P ys → All P (xs ++ ys)
   all-both P [] ys a b = b
   all-both P (x ∷ xs) ys a b = (a .0, all-both P xs ys (a .1) b)
+
+  pub all-parts : (P : A → Type 0) (xs ys : List A) → All P (xs ++ ys) → All P xs × All P ys
+  all-parts P [] ys a = (tt, a)
+  all-parts P (x ∷ xs) ys a = let b = all-parts P xs ys (a .1) in ((a .0, b .0), b .1)
 
   pub all-append : (P : A → Type 0) (xs : List A) (y : A) → All P xs → P y → All P (xs ++ (y ∷ []))
   all-append P xs y a p = all-both P xs (y ∷ []) a (p, tt)
@@ -81,6 +85,28 @@ Each R (x ∷ xs) (y ∷ ys) = R x y × Each R xs ys
 pub find-map : {A B : Type 0} (f : A → B) (t : B → Bool) (xs : List A) → find t (map f xs) ≡ Option·map f (find (λ x. t (f x)) xs)
 find-map f t [] = refl
 find-map f t (x ∷ xs) = on (λ b. cond b (some (f x)) (find t (map f xs)) ≡ Option·map f (cond b (some x) (find (λ x. t (f x)) xs))) (t (f x)) (λ q. refl) (λ q. find-map f t xs)
+
+-- a list's images, and their parts
+pub at-map : {A B : Type 0} (f : A → B) (xs : List A) (i : ℕ) → getElem? (map f xs) i ≡ Option·map f (getElem? xs i)
+at-map f [] i = refl
+at-map f (x ∷ xs) zero = refl
+at-map f (x ∷ xs) (suc i) = at-map f xs i
+
+pub record Parted {A B : Type 0} (f : A → B) (xs : List A) (ys : List B) (z : B) : Type 0 where
+  pub before : List A
+  pub at : A
+  pub between : List A
+  pub parted : xs ≡ before ++ (at ∷ between)
+  pub images : map f before ≡ ys
+  pub image : f at ≡ z
+
+pub part-back : {A B : Type 0} (f : A → B) (xs : List A) (ys : List B) (z : B) (zs : List B) → map f xs ≡ ys ++ (z ∷ zs) → Parted f xs ys z
+part-back f [] [] z zs e = absurd (cons≢nil (sym e))
+part-back f [] (y ∷ ys) z zs e = absurd (cons≢nil (sym e))
+part-back f (x ∷ xs) [] z zs e = record { before = []; at = x; between = xs; parted = refl; images = refl; image = head-eq-of-cons-eq e }
+part-back f (x ∷ xs) (y ∷ ys) z zs e =
+    let p = part-back f xs ys z zs (tail-eq-of-cons-eq e) in
+    record { before = x ∷ p .before; at = p .at; between = p .between; parted = ap (λ l. x ∷ l) (p .parted); images = λ i. head-eq-of-cons-eq e i ∷ p .images i; image = p .image }
 
 -- what may happen to a table: nothing, an entry more at its end, an entry renewed
 pub data Shift (A : Type 0) : Type 0 where

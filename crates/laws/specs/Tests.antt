@@ -1,6 +1,6 @@
 -- What a test tells: a goal taken by the two values of a test or of a search, and tests that are equality.
 use mathlib.Core.Path.{_≡_, refl, sym, _∙_}
-use mathlib.Core.Bool.{Bool, true, false, _&&_, cond, decide, decide-iff, false≢true, and-eq-true-iff}
+use mathlib.Core.Bool.{Bool, true, false, not, _&&_, _||_, cond, decide, decide-iff, false≢true, and-eq-true-iff}
 use mathlib.Core.Option.{Option, none, some}
 use mathlib.Core.HLevel.{Discrete}
 use lib.Dec.{eqb}
@@ -25,6 +25,11 @@ pub second-fails : (a : Bool) {b : Bool} → b ≡ false → (a && b) ≡ false
 second-fails true e = e
 second-fails false e = refl
 
+pub neither : (a b : Bool) → not (a || b) ≡ true → (a ≡ false) × (b ≡ false)
+neither true b e = absurd (false≢true e)
+neither false true e = absurd (false≢true e)
+neither false false e = (refl, refl)
+
 module _ {A : Type 0} where
   -- a goal at a choice
   pub split : (P : A → Type 0) (b : Bool) (x y : A) → (b ≡ true → P x) → (b ≡ false → P y) → P (cond b x y)
@@ -39,6 +44,10 @@ module _ {A : Type 0} where
   abbrev pub is-none : Option A → Bool
   is-none none = true
   is-none (some x) = false
+
+  pub one-more : (b : Bool) (x : A) (o : Option A) → not (is-none (cond b (some x) o)) ≡ (b || not (is-none o))
+  one-more true x o = refl
+  one-more false x o = refl
 
   pub none-of : (o : Option A) → is-none o ≡ true → o ≡ none
   none-of none e = refl

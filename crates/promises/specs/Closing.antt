@@ -9,6 +9,7 @@ use native.Mathlib.Decide.{decLt}
 use lib.ListN.{length, drop, take, getElem?, length-append, length-drop}
 use lib.Seq.{take-append-seam, drop-append-seam}
 use Rattle.laws.specs.Tests.{on, opt}
+use Rattle.laws.specs.Tables.{at-map}
 use Rattle.rulebook.specs.Names.{Mpid}
 use Rattle.rulebook.specs.Lines.{Record}
 use Rattle.rulebook.specs.Kept.{Group, Books, by-mpid, tally, fresh-books}
@@ -24,11 +25,6 @@ use Rattle.promises.specs.Day.{Sheet, sheet, Closes}
 use Rattle.promises.specs.Showing.{closing-shown}
 
 -- ── the sums ──
-at-map : {A B : Type 0} (f : A → B) (xs : List A) (i : ℕ) → getElem? (map f xs) i ≡ Option·map f (getElem? xs i)
-at-map f [] i = refl
-at-map f (x ∷ xs) zero = refl
-at-map f (x ∷ xs) (suc i) = at-map f xs i
-
 abbrev sheet-of : Closing → Sheet
 sheet-of r = record { number = r .said .number; line = take (r .said .bytes) (r .buffer) }
 

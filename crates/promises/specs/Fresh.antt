@@ -40,7 +40,7 @@ module _ (m : List ℕ) (long : least-words ≤ length m) where
   unfolding made-words
   made-is = rw (le-ltb (length m) least-words long) refl
 
-  fresh-says : view (made-words m) ≡ fresh-books (room-of m)
+  pub fresh-says : view (made-words m) ≡ fresh-books (room-of m)
   fresh-says = ap view made-is ∙ fresh-view (length m)
 
   fresh-start : Fair none (view (made-words m))

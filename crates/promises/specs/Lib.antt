@@ -9,3 +9,4 @@ pub mod Attempts
 pub mod Fresh
 -- and what it says
 pub mod Promises
+pub mod Examples

@@ -1,28 +1,31 @@
 -- Demand 3 over the public calls: what a desk may hold us to. What each word means is in Day; why each holds is in the other files.
 -- A day begins with the memory that making a fresh state leaves; m is any lent words, long enough, whatever they held.
 use mathlib.Core.Path.{_≡_, refl, sym, ap, _∙_, subst}
-use mathlib.Core.Bool.{true}
-use mathlib.Core.List.{List, _∷_, map}
+use mathlib.Core.Bool.{Bool, true, cond}
+use mathlib.Core.Option.{none}
+use mathlib.Core.List.{List, _∷_, map, foldl}
 use Prim.Native.Nat.{ℕ, _≤_}
 use Prim.Native.Char.{code}
 use lib.ListN.{length, getElem?, replicate}
 use borrow.Author.Tests.{le-ltb}
-use Rattle.laws.specs.Tables.{All}
+use Rattle.laws.specs.Tests.{is-none}
+use Rattle.laws.specs.Tables.{All, all-parts}
 use Rattle.rulebook.specs.Lines.{Request, News, Record, ask, tell}
 use Rattle.rulebook.specs.Kept.{Books, fresh-books}
 use Rattle.rulebook.specs.Judging.{Verdict, judge, see}
 use Rattle.rulebook.specs.Day as day
-use Rattle.rulebook.specs.Day.{run, marked}
+use Rattle.rulebook.specs.Day.{run, no-marks, marked}
 use Rattle.rulebook.specs.Account.{Told, desks}
 use Rattle.rulebook.specs.Retries as retries
 use Rattle.books.specs.Layout.{least-words, room-of}
 use Rattle.books.specs.View.{view}
 use Rattle.store.specs.Making.{made-words}
 use Rattle.calls.specs.Calling.{said-by, closed}
-use Rattle.promises.specs.Day.{Call, lines, Ample, after, left, Reply, reply, replies, sheet, rest, rest-replies, struck-after, FirstAttempt, shown, unsent, tells, Closes}
-use Rattle.promises.specs.Showing.{shows}
+use Rattle.promises.specs.Day.{is-kind, Call, lines, Ample, after, left, Reply, reply, replies, sheet, heard, rest, rest-replies, struck-after, FirstAttempt, shown, unsent, tells, Closes}
+use Rattle.promises.specs.Showing.{shows, open-shown}
+use Rattle.promises.specs.Striking.{request-said, notice-said, opening-said}
 use Rattle.promises.specs.Carrying.{all-booked, all-answered}
-use Rattle.promises.specs.Attempts.{all-parts, records, struck-record, first-attempt}
+use Rattle.promises.specs.Attempts.{records, opened-same, struck-record, first-attempt}
 use Rattle.promises.specs.Closing.{closes, closed-again}
 use Rattle.promises.specs.Fresh.{made-is, day-ok, memory-is, replies-is, all-replied, same-memory, same-replies, rest-says, rest-tells, next-shown, next-unchanged}
 
@@ -30,6 +33,12 @@ module _ (m : List ℕ) (long : least-words ≤ length m) where
   -- 1. No step of a day is answered 22, nor 21: each returns its answer line.
   pub never-refused : (cs : List Call) → Ample cs → All (λ (r : Reply). r .number ≡ 0) (replies (made-words m) cs)
   never-refused cs a = all-replied m long cs a
+
+  -- The first O passes, and no other does: the lines since the first O are those since opening.
+  pub opening : (cs : List Call) (c : Call) → Ample (c ∷ cs) → is-kind "O" (c .line) ≡ true →
+      shown (reply (left (made-words m) cs) c .answer) ≡ cond (is-none (foldl heard none (lines cs))) (record { outcome = code "P"; number = 0; sent = 0 }) (record { outcome = code "R"; number = 2; sent = 0 })
+  opening cs c a k = next-shown m long cs (a .1) c (a .0) ∙ ap (λ x. shows (judge (run (fresh-books (room-of m)) (records cs)) x .answer)) (opening-said (said-by (c .line)) k)
+      ∙ open-shown (run (fresh-books (room-of m)) (records cs)) (is-none (foldl heard none (lines cs))) (retries.linked-run no-marks (fresh-books (room-of m)) (retries.fresh-linked (room-of m)) (records cs) .opened ∙ opened-same cs)
 
   -- 2. The lines that are left, run alone with whatever buffers, get the same answer lines, byte for byte, and leave the same memory, word for word.
   pub rest-alone : (cs ds : List Call) → Ample cs → Ample ds → lines ds ≡ rest (lines cs) →
@@ -43,9 +52,10 @@ module _ (m : List ℕ) (long : least-words ≤ length m) where
   pub struck-unchanged : (cs : List Call) (c : Call) → Ample (c ∷ cs) → struck-after (lines cs) (c .line) ≡ true → after (left (made-words m) cs) c ≡ left (made-words m) cs
   struck-unchanged cs c a h = next-unchanged m long cs (a .1) c (a .0) h
 
-  pub retried : (cs : List Call) (c : Call) (r : Request) → Ample (c ∷ cs) → said-by (c .line) ≡ ask r → struck-after (lines cs) (c .line) ≡ true →
+  pub retried : (cs : List Call) (c : Call) → Ample (c ∷ cs) → is-kind "NMCBR" (c .line) ≡ true → struck-after (lines cs) (c .line) ≡ true →
       (f : FirstAttempt (c .line) cs) × (shown (reply (left (made-words m) cs) c .answer) ≡ unsent (shown (reply (left (made-words m) (f .before)) (f .call) .answer)))
-  retried cs c r a q h =
+  retried cs c a k h =
+      let (r, q) = request-said (said-by (c .line)) k in
       let w = first-attempt (room-of m) cs (c .line) r q h in
       let f = w .0 in
       let b = all-parts (λ (c : Call). 32 ≤ length (c .buffer)) (f .before) (f .call ∷ f .between) (subst Ample (f .parted) (a .1)) in
@@ -53,9 +63,10 @@ module _ (m : List ℕ) (long : least-words ≤ length m) where
       let then = next-shown m long (f .before) (b .0) (f .call) (b .1 .0) ∙ ap (λ x. shows (judge (run (fresh-books (room-of m)) (records (f .before))) x .answer)) (ap said-by (f .same) ∙ q) in
       (f, now ∙ ap (λ (v : Verdict). shows (v .answer)) (w .1) ∙ sym (ap unsent then))
 
-  pub seen : (cs : List Call) (c : Call) (n : ℕ) (w : News) → Ample (c ∷ cs) → said-by (c .line) ≡ tell n w → struck-after (lines cs) (c .line) ≡ true →
+  pub seen : (cs : List Call) (c : Call) → Ample (c ∷ cs) → is-kind "QFDH" (c .line) ≡ true → struck-after (lines cs) (c .line) ≡ true →
       shown (reply (left (made-words m) cs) c .answer) ≡ record { outcome = code "S"; number = 0; sent = 0 }
-  seen cs c n w a q h = next-shown m long cs (a .1) c (a .0) ∙ ap (λ x. shows (judge (run (fresh-books (room-of m)) (records cs)) x .answer)) q
+  seen cs c a k h = let (n, w, q) = notice-said (said-by (c .line)) k in
+      next-shown m long cs (a .1) c (a .0) ∙ ap (λ x. shows (judge (run (fresh-books (room-of m)) (records cs)) x .answer)) q
       ∙ ap (λ (v : Verdict). shows (v .answer)) (retries.struck-notice (room-of m) (records cs) n w (ap (day.struck (marked (records cs))) (sym q) ∙ sym (struck-record cs (c .line)) ∙ h))
 
   -- 5. Each desk that the struck list lists has a closing line, which shows its four totals: the sums over what is left of the orders passed and over

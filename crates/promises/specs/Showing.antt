@@ -1,6 +1,6 @@
 -- What an answer line and a closing line show is what they were written from: no field has a tab or an LF in it, and digits say their number.
-use mathlib.Core.Path.{_≡_, refl, sym, ap, _∙_}
-use mathlib.Core.Bool.{Bool, true, false, not, _||_, false≢true}
+use mathlib.Core.Path.{_≡_, refl, sym, ap, _∙_, subst}
+use mathlib.Core.Bool.{Bool, true, false, not, cond}
 use mathlib.Core.Option.{Option, none, some}
 use mathlib.Core.List.{List, [], _∷_, _++_, append-nil, append-assoc}
 use Prim.Native.Nat.{ℕ, zero, suc, _≤_}
@@ -8,12 +8,14 @@ use Prim.Native.Char.{code}
 use native.Mathlib.Omega.{arith}
 use lib.ListN.{getD, getElem?}
 use lib.Dec.{eqb}
-use Rattle.laws.specs.Tests.{both}
+use Rattle.laws.specs.Tests.{both, neither}
 use Rattle.laws.specs.Tables.{All, Each}
+use Rattle.laws.specs.Checks.{first}
 use Rattle.rulebook.specs.Names.{Ident, Mpid, mpid-of}
-use Rattle.rulebook.specs.Lines.{ceiling, Deal, new, change, cancel, block, unblock, News, quote, fill, reduction, cancel-refused, Record, broken, open-day, group, symbol, ask, tell, Field, number, mpid, Line, line-of}
-use Rattle.rulebook.specs.Kept.{Group, Tally}
+use Rattle.rulebook.specs.Lines.{ceiling, Deal, new, change, cancel, block, unblock, News, quote, fill, reduction, cancel-refused, Record, broken, open-day, group, symbol, ask, tell, Field, number, serial, Line, line-of}
+use Rattle.rulebook.specs.Kept.{Group, Books, Tally}
 use Rattle.rulebook.specs.Outcomes.{Answer, answer-line, closing-line}
+use Rattle.rulebook.specs.Judging.{judge}
 use Rattle.fields.specs.Digits.{number-of}
 use Rattle.fields.specs.Numbers.{number-digits}
 use Rattle.fields.specs.Parts.{every}
@@ -21,14 +23,9 @@ use Rattle.fields.specs.Series.{tails}
 use Rattle.fields.specs.Forms.{Says, IsLine}
 use Rattle.fields.specs.Trips.{clear, good, goods, goods-parts, says-clear}
 use Rattle.fields.specs.Values.{short-packed}
-use Rattle.promises.specs.Day.{parts, field, Shown, shown, desk-shown, totals-shown}
+use Rattle.promises.specs.Day.{parts, field, number-in, Shown, shown, desk-shown, totals-shown}
 
 -- ── the fields of a line ──
-neither : (a b : Bool) → not (a || b) ≡ true → (a ≡ false) × (b ≡ false)
-neither true b h = absurd (false≢true h)
-neither false true h = absurd (false≢true h)
-neither false false h = (refl, refl)
-
 parts-held : (held f t : List ℕ) → every clear f ≡ true → parts held (f ++ t) ≡ parts (held ++ f) t
 unfolding parts every
 parts-held held [] t h = rw append-nil
@@ -108,6 +105,23 @@ answer-shown x a l w =
     let n : number-of (field 3 l) ≡ a .number = number-said 0 20 (a .number) (field 3 l) (omega arith) (f 2) in
     let s : number-of (field 4 l) ≡ a .sent = number-said 0 1 (a .sent) (field 4 l) (omega arith) (f 3) in
     λ i. record { outcome = o i; number = n i; sent = s i }
+
+-- an O shows P where the day is not open, and 2 where it is
+pub open-shown : (b : Books) (t : Bool) → b .opened ≡ not t → shows (judge b open-day .answer) ≡ cond t (record { outcome = code "P"; number = 0; sent = 0 }) (record { outcome = code "R"; number = 2; sent = 0 })
+unfolding judge first
+open-shown b true e = rw e refl
+open-shown b false e = rw e refl
+
+-- ── notices ──
+notice-first : (n : ℕ) (w : News) → (goods (line-of (tell n w) .fields) ≡ true) × (getElem? (line-of (tell n w) .fields) 0 ≡ some (serial n))
+notice-first n (quote s x y) = (refl, refl)
+notice-first n (fill k z p) = (refl, refl)
+notice-first n (reduction k z) = (refl, refl)
+notice-first n (cancel-refused k) = (refl, refl)
+
+-- THEOREM. A notice's number is its line's second field
+pub notice-number : (n : ℕ) (w : News) (l : List ℕ) → IsLine (line-of (tell n w)) l → number-in 1 l ≡ n
+notice-number n w l i = let f = notice-first n w in number-said 1 4_294_967_295 n (field 1 l) (omega arith) (subst (λ o. SaysAt o (field 1 l)) (f .1) (field-of (line-of (tell n w)) l (kind-clear (tell n w)) (f .0) i 0))
 
 -- ── closing lines ──
 -- THEOREM. A closing line shows its desk and its totals

@@ -4,11 +4,14 @@ use mathlib.Core.Bool.{Bool, true, false, not, _&&_, _||_, cond, decide, false�
 use mathlib.Core.Option.{Option, none, some}
 use mathlib.Core.List.{List, [], _∷_, List-discrete}
 use native.Mathlib.Decide.{ℕ-discrete}
+use native.Mathlib.Omega.{arith}
 use Prim.Native.Nat.{ℕ, suc}
+use Prim.Native.String.{String}
 use lib.Dec.{leb, eqb}
-use Rattle.laws.specs.Tests.{on, is-none, Exact, decide-exact}
+use Rattle.laws.specs.Tests.{on, is-none, one-more, Exact, decide-exact}
 use Rattle.laws.specs.Tables.{find}
-use Rattle.rulebook.specs.Lines.{Request, Record, broken, open-day, group, symbol, ask, tell, line-of, same-request}
+use Rattle.rulebook.specs.Names.{bytes}
+use Rattle.rulebook.specs.Lines.{Deal, new, change, cancel, block, unblock, Request, News, quote, fill, reduction, cancel-refused, Record, broken, open-day, group, symbol, ask, tell, line-of, same-request}
 use Rattle.rulebook.specs.Kept.{Books, fresh-books}
 use Rattle.rulebook.specs.Judging.{nothing, judge}
 use Rattle.rulebook.specs.Day as day
@@ -19,22 +22,119 @@ use Rattle.codec.specs.Readings.{record-of, reading}
 use Rattle.codec.specs.Lines.{read-line-of, one-line}
 use Rattle.codec.specs.declared.Reading.the-variants.{Broken}
 use Rattle.calls.specs.Calling.{said-by}
-use Rattle.promises.specs.Day.{Since, opens, heard, among, takes, last-taken, repeats, struck}
+use Rattle.promises.specs.Day.{number-in, is-kind, Since, heard, among, last-taken, struck, strike}
+use Rattle.promises.specs.Showing.{notice-number}
+
+-- ── what striking asks of a line, by the record that it says ──
+abbrev has-kind : String → Record → Bool
+has-kind s x = not (is-none (find (eqb (line-of x .kind)) (bytes s)))
+
+-- a request is of no other kind, and neither is a notice
+deal-kinds : (r : Request) → (has-kind "O" (ask r) ≡ false) × (has-kind "NMCBR" (ask r) ≡ true) × (has-kind "QFDH" (ask r) ≡ false)
+deal-kinds r = deal (r .deal)
+  where
+    deal : (d : Deal) → let x = ask (record { key = r .key; deal = d }) in (has-kind "O" x ≡ false) × (has-kind "NMCBR" x ≡ true) × (has-kind "QFDH" x ≡ false)
+    deal (new s x z p) = (refl, refl, refl)
+    deal (change n z p) = (refl, refl, refl)
+    deal (cancel n) = (refl, refl, refl)
+    deal block = (refl, refl, refl)
+    deal unblock = (refl, refl, refl)
+
+news-kinds : (n : ℕ) (w : News) → (has-kind "O" (tell n w) ≡ false) × (has-kind "NMCBR" (tell n w) ≡ false) × (has-kind "QFDH" (tell n w) ≡ true)
+news-kinds n (quote s x y) = (refl, refl, refl)
+news-kinds n (fill k z p) = (refl, refl, refl)
+news-kinds n (reduction k z) = (refl, refl, refl)
+news-kinds n (cancel-refused k) = (refl, refl, refl)
+
+-- a line that says a record other than `broken` is its line
+abbrev is-whole : Record → Bool
+is-whole broken = false
+is-whole open-day = true
+is-whole (group m t) = true
+is-whole (symbol s) = true
+is-whole (ask r) = true
+is-whole (tell n w) = true
+
+line-said : (l : List ℕ) (x : Record) → said-by l ≡ x → is-whole x ≡ true → IsLine (line-of x) l
+line-said l x q h = subst (λ x. IsLine (line-of x) l) q (read-line-of l (λ e. false≢true (ap is-whole (sym (ap (record-of l) e) ∙ q) ∙ h)))
+
+-- THEOREM. A request line says a request, a notice line a notice, and an O line that the day opens
+pub request-said : (x : Record) → has-kind "NMCBR" x ≡ true → (r : Request) × (x ≡ ask r)
+request-said broken h = absurd (false≢true h)
+request-said open-day h = absurd (false≢true h)
+request-said (group m t) h = absurd (false≢true h)
+request-said (symbol s) h = absurd (false≢true h)
+request-said (ask r) h = (r, refl)
+request-said (tell n w) h = absurd (false≢true (sym (news-kinds n w .1) ∙ h))
+
+pub notice-said : (x : Record) → has-kind "QFDH" x ≡ true → (n : ℕ) × (w : News) × (x ≡ tell n w)
+notice-said broken h = absurd (false≢true h)
+notice-said open-day h = absurd (false≢true h)
+notice-said (group m t) h = absurd (false≢true h)
+notice-said (symbol s) h = absurd (false≢true h)
+notice-said (ask r) h = absurd (false≢true (sym (deal-kinds r .2) ∙ h))
+notice-said (tell n w) h = (n, w, refl)
+
+pub opening-said : (x : Record) → has-kind "O" x ≡ true → x ≡ open-day
+opening-said broken h = absurd (false≢true h)
+opening-said open-day h = refl
+opening-said (group m t) h = absurd (false≢true h)
+opening-said (symbol s) h = absurd (false≢true h)
+opening-said (ask r) h = absurd (false≢true (sym (deal-kinds r .0) ∙ h))
+opening-said (tell n w) h = absurd (false≢true (sym (news-kinds n w .0) ∙ h))
+
+-- by the record: an O opens, a notice takes its number, a request or a notice repeats an earlier one
+abbrev opens : Record → Since
+opens open-day = some []
+opens broken = none
+opens (group m t) = none
+opens (symbol s) = none
+opens (ask r) = none
+opens (tell n w) = none
+
+abbrev takes : Record → ℕ → ℕ
+takes (tell n w) k = cond (eqb n (suc k)) n k
+takes broken k = k
+takes open-day k = k
+takes (group m t) k = k
+takes (symbol s) k = k
+takes (ask r) k = k
+
+abbrev repeats : Record → List ℕ → List (List ℕ) → Bool
+repeats (ask r) l e = among l e
+repeats (tell n w) l e = leb n (last-taken e)
+repeats broken l e = false
+repeats open-day l e = false
+repeats (group m t) l e = false
+repeats (symbol s) l e = false
+
+opens-is : (x : Record) → cond (has-kind "O" x) (some []) none ≡ opens x
+opens-is broken = refl
+opens-is open-day = refl
+opens-is (group m t) = refl
+opens-is (symbol s) = refl
+opens-is (ask r) = rw (deal-kinds r .0) refl
+opens-is (tell n w) = rw (news-kinds n w .0) refl
+
+takes-is : (l : List ℕ) (x : Record) → said-by l ≡ x → (k : ℕ) → cond (has-kind "QFDH" x && eqb (number-in 1 l) (suc k)) (number-in 1 l) k ≡ takes x k
+takes-is l broken q k = refl
+takes-is l open-day q k = refl
+takes-is l (group m t) q k = refl
+takes-is l (symbol s) q k = refl
+takes-is l (ask r) q k = rw (deal-kinds r .2) refl
+takes-is l (tell n w) q k = rw (news-kinds n w .2, notice-number n w l (line-said l (tell n w) q refl)) refl
+
+repeats-is : (l : List ℕ) (x : Record) → said-by l ≡ x → (e : List (List ℕ)) → cond (has-kind "NMCBR" x) (among l e) (has-kind "QFDH" x && leb (number-in 1 l) (last-taken e)) ≡ repeats x l e
+repeats-is l broken q e = refl
+repeats-is l open-day q e = refl
+repeats-is l (group m t) q e = refl
+repeats-is l (symbol s) q e = refl
+repeats-is l (ask r) q e = rw (deal-kinds r .1) refl
+repeats-is l (tell n w) q e = rw (news-kinds n w .1, news-kinds n w .2, notice-number n w l (line-said l (tell n w) q refl)) refl
 
 -- ── "Identical means equal as records, which is equal as lines" ──
-abbrev is-ask : Record → Bool
-is-ask (ask r) = true
-is-ask broken = false
-is-ask open-day = false
-is-ask (group m t) = false
-is-ask (symbol s) = false
-is-ask (tell n w) = false
-
-whole : (l : List ℕ) (r : Request) → said-by l ≡ ask r → reading l ≡ Broken → ⊥
-whole l r q e = false≢true (ap is-ask (sym (ap (record-of l) e) ∙ q))
-
 pub same-line : (k l : List ℕ) (r : Request) → said-by k ≡ ask r → said-by l ≡ ask r → k ≡ l
-same-line k l r p q = one-line (ask r) k l (subst (λ x. IsLine (line-of x) k) p (read-line-of k (whole k r p))) (subst (λ x. IsLine (line-of x) l) q (read-line-of l (whole l r q)))
+same-line k l r p q = one-line (ask r) k l (line-said k (ask r) p refl) (line-said l (ask r) q refl)
 
 -- this record asks for the same
 abbrev asks : Request → Record → Bool
@@ -100,10 +200,6 @@ noted-last k (symbol s) h = refl
 noted-last k (ask r) h = refl
 noted-last k (tell n w) h = ap (λ o. cond (o && eqb n (suc (k .last))) n (k .last)) h
 
-one-more : {A : Type 0} (b : Bool) (x : A) (o : Option A) → not (is-none (cond b (some x) o)) ≡ (b || not (is-none o))
-one-more true x o = refl
-one-more false x o = refl
-
 noted-seen : (k : Marks) (x : Record) (r : Request) → k .opened ≡ true → known r (noted k x .seen) ≡ (asks r x || known r (k .seen))
 unfolding noted
 noted-seen k broken r h = refl
@@ -114,10 +210,10 @@ noted-seen k (ask q) r h = ap (λ o. known r (cond o (q ∷ k .seen) (k .seen)))
 noted-seen k (tell n w) r h = refl
 
 pub agree-heard : (s : Since) (k : Marks) → Agree s k → (l : List ℕ) → Agree (heard s l) (noted k (said-by l))
-agree-heard none k a l = rw a (opens-agree (said-by l))
+agree-heard none k a l = rw (a, opens-is (said-by l)) (opens-agree (said-by l))
 agree-heard (some e) k a l = (
   noted-open k (said-by l) (a .0),
-  noted-last k (said-by l) (a .0) ∙ ap (takes (said-by l)) (a .1),
+  noted-last k (said-by l) (a .0) ∙ ap (takes (said-by l)) (a .1) ∙ sym (takes-is l (said-by l) refl (last-taken e)),
   λ j r q. noted-seen k (said-by l) r (a .0) ∙ (λ i. sym (identical l j r q) i || a .2 j r q i) ∙ sym (one-more (same-bytes l j) l (find (λ k. same-bytes k j) e)),
 )
 
@@ -141,7 +237,12 @@ repeats-same e k a l (tell n w) q = rw (a .0, a .1) refl
 
 pub struck-same : (s : Since) (k : Marks) → Agree s k → (l : List ℕ) → struck s l ≡ day.struck k (said-by l)
 struck-same none k a l = rw a (sym (none-struck (said-by l)))
-struck-same (some e) k a l = repeats-same e k a l (said-by l) refl
+struck-same (some e) k a l = repeats-is l (said-by l) refl e ∙ repeats-same e k a l (said-by l) refl
+
+-- THEOREM. What striking leaves of lines is what the rulebook leaves of the records that they say
+pub strike-same : {A : Type 0} (f : A → List ℕ) (s : Since) (k : Marks) → Agree s k → (xs : List A) → strike f s xs ≡ day.strike (λ x. said-by (f x)) k xs
+strike-same f s k a [] = refl
+strike-same f s k a (x ∷ xs) = let q = strike-same f (heard s (f x)) (noted k (said-by (f x))) (agree-heard s k a (f x)) xs in λ i. cond (struck-same s k a (f x) i) (q i) (x ∷ q i)
 
 -- ── the lines so far, and the books ──
 pub record Fair (s : Since) (b : Books) : Type 0 where

@@ -83,7 +83,7 @@ abbrev answer : Char → ℕ → ℕ → Answer
 answer o n s = record { outcome = o; number = n; sent = s }
 
 -- to unfold this is to let every definition of judging compute
-judging : Unit {0}
+unfoldable pub judging : Unit {0}
 unfolding word fresh-books judge judge-request judge-notice Option·elim look put first deal-ruling news-ruling new-checks change-checks cancel-checks fill-checks reduction-checks refused-checks limit-checks bad-price off-market rows open-value worth apply enact same-request decide ℕ-discrete exact-discrete
 judging = tt
 
