@@ -6,9 +6,13 @@
 // Where reading fails, the whole lines before have had their answers, the part of a line after them is not judged, no closing line is written,
 // and standard error says why: such a day cannot be taken for a whole one. Where writing fails the program ends at once, and standard error
 // says why unless the output was closed. By default the system itself ends a program that writes to a pipe that nobody reads.
+ghost use mathlib.Core.Path.{_≡_};
+ghost use mathlib.Core.List.{map};
 ghost use Prim.Native.Nat.{_≤_};
 ghost use lib.ListN.{length};
-ghost use Rattle.gate.specs.Turns.{LinesPassed, HeldFew};
+ghost use Rattle.lines.specs.Splitting.{last};
+ghost use Rattle.promises.specs.Day.{after, left};
+ghost use Rattle.gate.specs.Turns.{call-for, LinesPassed, HeldFew};
 use calls::Answered;
 use calls::Closed;
 use fields::Place;
@@ -102,7 +106,9 @@ fn say_refused() {
 }
 
 // Judges a line, and puts its answer after those that wait.
-fn judge_line(mem: &mut [u64], line: &[u8], answers: &mut [u8], count: usize) -> Answers {
+fn judge_line(mem: &mut [u64], line: &[u8], answers: &mut [u8], count: usize) -> Answers
+    ensures { λ _. ⌜ now (mem .exit) ≡ after (now (mem .entry)) (call-for (now (line .entry))) ⌝ }
+{
     let mut answer = [0u8; ANSWER];
     let Answered::Line(to) = calls::record(mem, line, &mut answer) else {
         say_refused();
@@ -113,7 +119,7 @@ fn judge_line(mem: &mut [u64], line: &[u8], answers: &mut [u8], count: usize) ->
 
 // Judges the lines that end in a text, one after the other, and writes their answers. Answers where the last of them ends.
 fn judge_lines(mem: &mut [u64], text: &[u8], answers: &mut [u8]) -> Judged
-    ensures { λ r. ⌜ LinesPassed (now (text .entry)) r ⌝ }
+    ensures { λ r. ⌜ LinesPassed (now (text .entry)) (now (mem .entry)) r (now (mem .exit)) ⌝ }
 {
     let mut count = 0;
     let mut at = 0;
@@ -166,11 +172,13 @@ fn judge_block(mem: &mut [u64], text: &mut [u8], held: usize, answers: &mut [u8]
 }
 
 // Judges a last part that the input ends without LF. Where it is empty there is none.
-fn judge_last(mem: &mut [u64], last: &[u8], answers: &mut [u8]) -> Answers {
-    if last.len() == 0 {
+fn judge_last(mem: &mut [u64], part: &[u8], answers: &mut [u8]) -> Answers
+    ensures { λ _. ⌜ now (mem .exit) ≡ left (now (mem .entry)) (map call-for (last (now (part .entry)))) ⌝ }
+{
+    if part.len() == 0 {
         return Answers::Waiting(0);
     }
-    judge_line(mem, last, answers, 0)
+    judge_line(mem, part, answers, 0)
 }
 
 // Puts the closing line of the group at a place in listing order.

@@ -1,8 +1,8 @@
 -- A struck request has a first attempt in the day, and its answer line repeats that attempt's.
 use mathlib.Core.Path.{_≡_, refl, sym, ap, _∙_, subst}
-use mathlib.Core.Bool.{true, false, not}
+use mathlib.Core.Bool.{true, not}
 use mathlib.Core.Option.{none, some}
-use mathlib.Core.List.{List, [], _∷_, _++_, map, map-map, foldl, cons≢nil, head-eq-of-cons-eq, tail-eq-of-cons-eq}
+use mathlib.Core.List.{List, [], _∷_, map, map-map, foldl}
 use Prim.Native.Nat.{ℕ}
 use borrow.Author.Tests.{not-true}
 use Rattle.laws.specs.Tests.{is-none}
@@ -12,7 +12,6 @@ use Rattle.rulebook.specs.Judging.{judge}
 use Rattle.rulebook.specs.Kept.{fresh-books}
 use Rattle.rulebook.specs.Day as day
 use Rattle.rulebook.specs.Day.{Marks, no-marks, noted, marked, run}
-use Rattle.rulebook.specs.Retries as retries
 use Rattle.rulebook.specs.Retries.{repeated, struck-request}
 use Rattle.calls.specs.Calling.{said-by}
 use Rattle.promises.specs.Day.{Call, lines, Since, heard, struck, struck-after, FirstAttempt}
@@ -48,8 +47,7 @@ first-attempt n cs l r q h =
     let w = struck-request n (records cs) r s in
     let f = w .0 in
     let p = part-back (λ (c : Call). said-by (c .line)) cs (f .before) (ask r) (f .between) (sym (map-map said-by (λ (c : Call). c .line) cs) ∙ f .parts) in
-    let i : records (p .before) ≡ f .before = map-map said-by (λ (c : Call). c .line) (p .before) ∙ p .images in
-    (
+    let i : records (p .before) ≡ f .before = map-map said-by (λ (c : Call). c .line) (p .before) ∙ p .images in (
       record {
         before = p .before;
         call = p .at;

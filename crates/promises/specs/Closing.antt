@@ -1,20 +1,19 @@
 -- A closing line shows what the day's lines and answers say of its desk, and asking for it again gives it again.
 use mathlib.Core.Path.{_≡_, refl, sym, ap, _∙_, subst}
-use mathlib.Core.Bool.{true, false}
-use mathlib.Core.Option.{Option, none, some, Option·map}
-use mathlib.Core.List.{List, [], _∷_, _++_, map}
-use Prim.Native.Nat.{ℕ, zero, suc, _≤_}
+use mathlib.Core.Bool.{true}
+use mathlib.Core.Option.{none, some, Option·map}
+use mathlib.Core.List.{List, [], _++_}
+use Prim.Native.Nat.{ℕ, _≤_}
 use native.Mathlib.Omega.{arith}
 use native.Mathlib.Decide.{decLt}
 use lib.ListN.{length, drop, take, getElem?, length-append, length-drop}
 use lib.Seq.{take-append-seam, drop-append-seam}
 use Rattle.laws.specs.Tests.{on, opt}
 use Rattle.laws.specs.Tables.{at-map}
-use Rattle.rulebook.specs.Names.{Mpid}
 use Rattle.rulebook.specs.Lines.{Record}
-use Rattle.rulebook.specs.Kept.{Group, Books, by-mpid, tally, fresh-books}
+use Rattle.rulebook.specs.Kept.{Group, Books, tally, fresh-books}
 use Rattle.rulebook.specs.Day.{run}
-use Rattle.rulebook.specs.Account.{Told, account, desks}
+use Rattle.rulebook.specs.Account.{account, desks}
 use Rattle.rulebook.specs.Sums as sums
 use Rattle.rulebook.specs.Sums.{listed, account-run}
 use Rattle.books.specs.View.{view}

@@ -1,7 +1,7 @@
 -- Demand 3, what it is about: a day over the public calls, what is struck from it, and what its lines and answer lines show.
 -- Lines, memory and answer lines are what a host hands the gate and gets back: bytes, words, bytes. Each step is the record call's own statement.
 use mathlib.Core.Path.{_≡_}
-use mathlib.Core.Bool.{Bool, true, false, not, _&&_, cond, decide}
+use mathlib.Core.Bool.{Bool, false, not, _&&_, cond, decide}
 use mathlib.Core.Option.{Option, none, some}
 use mathlib.Core.List.{List, [], _∷_, _++_, map, foldl, List-discrete}
 use native.Mathlib.Decide.{ℕ-discrete}

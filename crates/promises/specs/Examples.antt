@@ -1,9 +1,9 @@
 -- Document 01's day over the public calls, byte for byte, and the useless gates of "What a desk may hold us to": none meets the record call's statement.
 use mathlib.Core.Path.{_≡_, refl, sym, ap, _∙_, subst}
-use mathlib.Core.Bool.{true, false}
+use mathlib.Core.Bool.{true}
 use mathlib.Core.Option.{Option, none, some, Option·map, Option·none-ne-some, Option·some-injective}
 use mathlib.Core.List.{List, [], _∷_, _++_, map}
-use Prim.Native.Nat.{ℕ, _+_, _*_, _≤_, min}
+use Prim.Native.Nat.{ℕ, _+_, _*_, _≤_}
 use Prim.Native.Char.{code}
 use native.Mathlib.Omega.{arith}
 use lib.ListN.{length, replicate, length-replicate, take, getElem?}
@@ -22,7 +22,7 @@ use Rattle.books.specs.View.{view}
 use Rattle.store.specs.Making.{made-words}
 use Rattle.rules.specs.Testing.{state-ok}
 use Rattle.calls.specs.Calling.{said-by, closing-of, Recorded, recorded, group-at}
-use Rattle.promises.specs.Day.{Call, lines, Ample, after, left, Reply, reply, replies, Sheet, sheet, is-kind, Shown, shown, rest}
+use Rattle.promises.specs.Day.{Call, lines, Ample, left, Reply, replies, sheet, is-kind, Shown, shown, rest}
 use Rattle.promises.specs.Showing.{shows}
 use Rattle.promises.specs.Striking.{strike-same}
 use Rattle.promises.specs.Carrying.{all-answered}
@@ -177,7 +177,7 @@ pub not-refusing : (G : Gate) → Meets G → RefusesAll G → ⊥
 unfolding computing judging
 not-refusing G g r =
     let l = length-replicate {A = ℕ} words-of-400 0 in
-    let p = next-shown lent (enough lent l) (calls before-it) (ample before-it) (record { line = order; buffer = spare }) (omega arith) ∙ ap (λ n. shows (judge (run (fresh-books n) (records (calls before-it))) (said-by order) .answer)) (room lent l) in
+    let p = next-shown lent (enough lent l) (calls before-it) (ample before-it) (record { line = order; buffer = spare }) (omega arith) (said-by order) refl ∙ ap (λ n. shows (judge (run (fresh-books n) (records (calls before-it))) (said-by order) .answer)) (room lent l) in
     let z : _≡_ {A = ℕ} (code "P") (code "R") = ap (λ (s : Shown). s .outcome) (sym p) ∙ sym (ap (λ (r : Recorded). shown (take (r .said .bytes) (r .buffer)) .outcome) (g (memory before-it) order spare)) ∙ r (memory before-it) order spare (omega arith) (kinds .0) in
     omega arith
 

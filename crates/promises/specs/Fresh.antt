@@ -7,6 +7,7 @@ use Prim.Native.Nat.{ℕ, _≤_}
 use lib.ListN.{length, replicate}
 use borrow.Author.Tests.{le-ltb}
 use Rattle.laws.specs.Tables.{All}
+use Rattle.rulebook.specs.Lines.{Record}
 use Rattle.rulebook.specs.Kept.{Books, fresh-books}
 use Rattle.rulebook.specs.Judging.{judge}
 use Rattle.rulebook.specs.Day.{step, run}
@@ -78,9 +79,9 @@ module _ (m : List ℕ) (long : least-words ≤ length m) where
 
     -- a call more
     module _ (c : Call) (h : 32 ≤ length (c .buffer)) where
-      pub next-shown : shown (reply (left (made-words m) cs) c .answer) ≡ shows (judge (run (fresh-books (room-of m)) (records cs)) (said-by (c .line)) .answer)
-      next-shown = ap (λ (r : Reply). shown (r .answer)) (reply-is (left (made-words m) cs) c h day-ok) ∙ answered-shown (view (left (made-words m) cs)) (c .line) (exactly (left (made-words m) cs) .0 day-ok .sound)
-          ∙ ap (λ b. shows (judge b (said-by (c .line)) .answer)) day-says
+      pub next-shown : (x : Record) → said-by (c .line) ≡ x → shown (reply (left (made-words m) cs) c .answer) ≡ shows (judge (run (fresh-books (room-of m)) (records cs)) x .answer)
+      next-shown x q = ap (λ (r : Reply). shown (r .answer)) (reply-is (left (made-words m) cs) c h day-ok) ∙ answered-shown (view (left (made-words m) cs)) (c .line) (exactly (left (made-words m) cs) .0 day-ok .sound)
+          ∙ (λ i. shows (judge (day-says i) (q i) .answer))
 
       pub next-unchanged : struck-after (lines cs) (c .line) ≡ true → after (left (made-words m) cs) c ≡ left (made-words m) cs
       next-unchanged s = after-is (left (made-words m) cs) c h day-ok

@@ -1,89 +1,68 @@
 -- Demand 3 over the public calls: what a desk may hold us to. What each word means is in Day; why each holds is in the other files.
 -- A day begins with the memory that making a fresh state leaves; m is any lent words, long enough, whatever they held.
-use mathlib.Core.Path.{_≡_, refl, sym, ap, _∙_, subst}
-use mathlib.Core.Bool.{Bool, true, cond}
+use mathlib.Core.Path.{_≡_, ap}
+use mathlib.Core.Bool.{true, cond}
 use mathlib.Core.Option.{none}
-use mathlib.Core.List.{List, _∷_, map, foldl}
+use mathlib.Core.List.{List, _∷_, _++_, foldl}
 use Prim.Native.Nat.{ℕ, _≤_}
 use Prim.Native.Char.{code}
-use lib.ListN.{length, getElem?, replicate}
-use borrow.Author.Tests.{le-ltb}
+use lib.ListN.{length, getElem?}
 use Rattle.laws.specs.Tests.{is-none}
-use Rattle.laws.specs.Tables.{All, all-parts}
-use Rattle.rulebook.specs.Lines.{Request, News, Record, ask, tell}
-use Rattle.rulebook.specs.Kept.{Books, fresh-books}
-use Rattle.rulebook.specs.Judging.{Verdict, judge, see}
-use Rattle.rulebook.specs.Day as day
-use Rattle.rulebook.specs.Day.{run, no-marks, marked}
-use Rattle.rulebook.specs.Account.{Told, desks}
-use Rattle.rulebook.specs.Retries as retries
-use Rattle.books.specs.Layout.{least-words, room-of}
-use Rattle.books.specs.View.{view}
+use Rattle.laws.specs.Tables.{All}
+use Rattle.rulebook.specs.Account.{desks}
+use Rattle.books.specs.Layout.{least-words}
 use Rattle.store.specs.Making.{made-words}
-use Rattle.calls.specs.Calling.{said-by, closed}
-use Rattle.promises.specs.Day.{is-kind, Call, lines, Ample, after, left, Reply, reply, replies, sheet, heard, rest, rest-replies, struck-after, FirstAttempt, shown, unsent, tells, Closes}
-use Rattle.promises.specs.Showing.{shows, open-shown}
-use Rattle.promises.specs.Striking.{request-said, notice-said, opening-said}
-use Rattle.promises.specs.Carrying.{all-booked, all-answered}
-use Rattle.promises.specs.Attempts.{records, opened-same, struck-record, first-attempt}
-use Rattle.promises.specs.Closing.{closes, closed-again}
-use Rattle.promises.specs.Fresh.{made-is, day-ok, memory-is, replies-is, all-replied, same-memory, same-replies, rest-says, rest-tells, next-shown, next-unchanged}
+use Rattle.calls.specs.Calling.{closed}
+use Rattle.promises.specs.Day.{Call, lines, Ample, after, left, Reply, reply, replies, sheet, is-kind, shown, unsent, tells, Closes, heard, rest, rest-replies, struck-after, FirstAttempt}
+use Rattle.promises.specs.Carrying.{replies-parted}
+use Rattle.promises.specs.Closing.{closed-again}
+use Rattle.promises.specs.Fresh.{all-replied, next-unchanged}
+use Rattle.promises.specs.Replying.{opened, repeated, seen-again, alone, one-end, shows-sums}
+
+-- What a call is replied goes by the calls before it: `reply (left m cs) c` is the reply to c in every day that begins with cs and goes on with c.
+pub one-by-one : (m : List ℕ) (cs ds : List Call) → replies m (cs ++ ds) ≡ replies m cs ++ replies (left m cs) ds
+one-by-one = replies-parted
 
 module _ (m : List ℕ) (long : least-words ≤ length m) where
-  -- 1. No step of a day is answered 22, nor 21: each returns its answer line.
+  -- No step of a day is answered 22, nor 21: each returns its answer line.
   pub never-refused : (cs : List Call) → Ample cs → All (λ (r : Reply). r .number ≡ 0) (replies (made-words m) cs)
   never-refused cs a = all-replied m long cs a
 
   -- The first O passes, and no other does: the lines since the first O are those since opening.
   pub opening : (cs : List Call) (c : Call) → Ample (c ∷ cs) → is-kind "O" (c .line) ≡ true →
       shown (reply (left (made-words m) cs) c .answer) ≡ cond (is-none (foldl heard none (lines cs))) (record { outcome = code "P"; number = 0; sent = 0 }) (record { outcome = code "R"; number = 2; sent = 0 })
-  opening cs c a k = next-shown m long cs (a .1) c (a .0) ∙ ap (λ x. shows (judge (run (fresh-books (room-of m)) (records cs)) x .answer)) (opening-said (said-by (c .line)) k)
-      ∙ open-shown (run (fresh-books (room-of m)) (records cs)) (is-none (foldl heard none (lines cs))) (retries.linked-run no-marks (fresh-books (room-of m)) (retries.fresh-linked (room-of m)) (records cs) .opened ∙ opened-same cs)
+  opening cs c a k = opened m long cs (a .1) c (a .0) k
 
-  -- 2. The lines that are left, run alone with whatever buffers, get the same answer lines, byte for byte, and leave the same memory, word for word.
+  -- The lines that are left, run alone with whatever buffers, get the same answer lines, byte for byte, and leave the same memory, word for word.
   pub rest-alone : (cs ds : List Call) → Ample cs → Ample ds → lines ds ≡ rest (lines cs) →
       (replies (made-words m) ds ≡ rest-replies (replies (made-words m) cs)) × (left (made-words m) ds ≡ left (made-words m) cs)
-  rest-alone cs ds a b e = (
-    replies-is m long ds b ∙ ap (all-answered (view (made-words m))) e ∙ sym (same-replies m long cs a),
-    memory-is m long ds b ∙ ap (all-booked (made-words m)) e ∙ sym (same-memory m long cs a),
-  )
+  rest-alone cs ds a b e = alone m long cs a ds b e
 
-  -- 3. What is struck changes no word. A struck request has a first attempt, and its answer line has that attempt's outcome and number, and 0 sent.
+  -- What is struck changes no word.
   pub struck-unchanged : (cs : List Call) (c : Call) → Ample (c ∷ cs) → struck-after (lines cs) (c .line) ≡ true → after (left (made-words m) cs) c ≡ left (made-words m) cs
-  struck-unchanged cs c a h = next-unchanged m long cs (a .1) c (a .0) h
+  struck-unchanged cs c a s = next-unchanged m long cs (a .1) c (a .0) s
 
+  -- A struck request has a first attempt, and its answer line has that attempt's outcome and number, and 0 sent.
   pub retried : (cs : List Call) (c : Call) → Ample (c ∷ cs) → is-kind "NMCBR" (c .line) ≡ true → struck-after (lines cs) (c .line) ≡ true →
       (f : FirstAttempt (c .line) cs) × (shown (reply (left (made-words m) cs) c .answer) ≡ unsent (shown (reply (left (made-words m) (f .before)) (f .call) .answer)))
-  retried cs c a k h =
-      let (r, q) = request-said (said-by (c .line)) k in
-      let w = first-attempt (room-of m) cs (c .line) r q h in
-      let f = w .0 in
-      let b = all-parts (λ (c : Call). 32 ≤ length (c .buffer)) (f .before) (f .call ∷ f .between) (subst Ample (f .parted) (a .1)) in
-      let now = next-shown m long cs (a .1) c (a .0) ∙ ap (λ x. shows (judge (run (fresh-books (room-of m)) (records cs)) x .answer)) q in
-      let then = next-shown m long (f .before) (b .0) (f .call) (b .1 .0) ∙ ap (λ x. shows (judge (run (fresh-books (room-of m)) (records (f .before))) x .answer)) (ap said-by (f .same) ∙ q) in
-      (f, now ∙ ap (λ (v : Verdict). shows (v .answer)) (w .1) ∙ sym (ap unsent then))
+  retried cs c a k s = repeated m long cs (a .1) c (a .0) k s
 
+  -- A struck notice is seen.
   pub seen : (cs : List Call) (c : Call) → Ample (c ∷ cs) → is-kind "QFDH" (c .line) ≡ true → struck-after (lines cs) (c .line) ≡ true →
       shown (reply (left (made-words m) cs) c .answer) ≡ record { outcome = code "S"; number = 0; sent = 0 }
-  seen cs c a k h = let (n, w, q) = notice-said (said-by (c .line)) k in
-      next-shown m long cs (a .1) c (a .0) ∙ ap (λ x. shows (judge (run (fresh-books (room-of m)) (records cs)) x .answer)) q
-      ∙ ap (λ (v : Verdict). shows (v .answer)) (retries.struck-notice (room-of m) (records cs) n w (ap (day.struck (marked (records cs))) (sym q) ∙ sym (struck-record cs (c .line)) ∙ h))
+  seen cs c a k s = seen-again m long cs (a .1) c (a .0) k s
 
-  -- 5. Each desk that the struck list lists has a closing line, which shows its four totals: the sums over what is left of the orders passed and over
-  -- the fills booked in that list, worked out from its lines and answer lines. There is no other closing line.
+  -- Each desk that the struck list lists, in its order, has a closing line, and that line shows the desk's four sums: over what is left of the orders
+  -- passed and over the fills booked in that list, worked out from its lines and answer lines. No other place has one.
   pub closing-sums : (cs : List Call) → Ample cs → (place : ℕ) (b : List ℕ) → 96 ≤ length b →
       let h = tells (rest-replies (replies (made-words m) cs)) in Closes (getElem? (desks h) place) h (sheet (left (made-words m) cs) place b)
-  closing-sums cs a place b l = subst (λ h. Closes (getElem? (desks h) place) h (sheet (left (made-words m) cs) place b)) (sym (rest-tells m long cs a))
-      (closes (left (made-words m) cs) place b l (day-ok m long cs a) (room-of m) (map said-by (rest (lines cs))) (rest-says m long cs a))
+  closing-sums cs a place b l = shows-sums m long cs a place b l
 
--- 4. Two days with the same room that strike to one list, setup included, end with the same memory, and so with the same closing lines.
+-- Two days with one room that strike to one list, setup included, end with the same memory, and with the same closing lines.
 pub alike : (m n : List ℕ) → least-words ≤ length m → length m ≡ length n → (cs ds : List Call) → Ample cs → Ample ds → rest (lines cs) ≡ rest (lines ds) →
     (left (made-words m) cs ≡ left (made-words n) ds) × ((place : ℕ) (b : List ℕ) → closed (left (made-words m) cs) place b ≡ closed (left (made-words n) ds) place b)
-alike m n long e cs ds a b q =
-    let p : made-words m ≡ made-words n = made-is m long ∙ ap (λ k. replicate k 0) e ∙ sym (made-is n (subst (λ k. least-words ≤ k) e long)) in
-    let s : left (made-words m) cs ≡ left (made-words n) ds = same-memory m long cs a ∙ ap (all-booked (made-words m)) q ∙ ap (λ k. all-booked k (rest (lines ds))) p ∙ sym (same-memory n (subst (λ k. least-words ≤ k) e long) ds b) in
-    (s, λ place b. ap (λ k. closed k place b) s)
+alike m n long e cs ds a b q = let s = one-end m long cs a n e ds b q in (s, λ place b. ap (λ k. closed k place b) s)
 
--- 6. A closing line that is asked for twice is the same, in the buffer that the first call left too. The call is lent memory to read, and leaves none.
+-- A closing line that is asked for twice is the same, and the buffer stays as the first call left it. The call is lent memory to read alone.
 pub asked-twice : (m : List ℕ) (place : ℕ) (b : List ℕ) → closed m place (closed m place b .buffer) ≡ closed m place b
 asked-twice = closed-again

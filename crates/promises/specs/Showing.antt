@@ -11,7 +11,7 @@ use lib.Dec.{eqb}
 use Rattle.laws.specs.Tests.{both, neither}
 use Rattle.laws.specs.Tables.{All, Each}
 use Rattle.laws.specs.Checks.{first}
-use Rattle.rulebook.specs.Names.{Ident, Mpid, mpid-of}
+use Rattle.rulebook.specs.Names.{Ident}
 use Rattle.rulebook.specs.Lines.{ceiling, Deal, new, change, cancel, block, unblock, News, quote, fill, reduction, cancel-refused, Record, broken, open-day, group, symbol, ask, tell, Field, number, serial, Line, line-of}
 use Rattle.rulebook.specs.Kept.{Group, Books, Tally}
 use Rattle.rulebook.specs.Outcomes.{Answer, answer-line, closing-line}
@@ -21,7 +21,7 @@ use Rattle.fields.specs.Numbers.{number-digits}
 use Rattle.fields.specs.Parts.{every}
 use Rattle.fields.specs.Series.{tails}
 use Rattle.fields.specs.Forms.{Says, IsLine}
-use Rattle.fields.specs.Trips.{clear, good, goods, goods-parts, says-clear}
+use Rattle.fields.specs.Trips.{clear, goods, goods-parts, says-clear}
 use Rattle.fields.specs.Values.{short-packed}
 use Rattle.promises.specs.Day.{parts, field, number-in, Shown, shown, desk-shown, totals-shown}
 

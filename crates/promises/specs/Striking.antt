@@ -1,10 +1,9 @@
 -- Striking lines is striking the records that they say: a request is identical to another exactly if its line is.
 use mathlib.Core.Path.{_≡_, refl, sym, ap, _∙_, subst}
 use mathlib.Core.Bool.{Bool, true, false, not, _&&_, _||_, cond, decide, false≢true}
-use mathlib.Core.Option.{Option, none, some}
+use mathlib.Core.Option.{none, some}
 use mathlib.Core.List.{List, [], _∷_, List-discrete}
 use native.Mathlib.Decide.{ℕ-discrete}
-use native.Mathlib.Omega.{arith}
 use Prim.Native.Nat.{ℕ, suc}
 use Prim.Native.String.{String}
 use lib.Dec.{leb, eqb}
@@ -18,11 +17,10 @@ use Rattle.rulebook.specs.Day as day
 use Rattle.rulebook.specs.Day.{step, Marks, no-marks, noted}
 use Rattle.rulebook.specs.Retries.{request-exact, Linked, struck-nothing, linked-step, fresh-linked}
 use Rattle.fields.specs.Forms.{IsLine}
-use Rattle.codec.specs.Readings.{record-of, reading}
+use Rattle.codec.specs.Readings.{record-of}
 use Rattle.codec.specs.Lines.{read-line-of, one-line}
-use Rattle.codec.specs.declared.Reading.the-variants.{Broken}
 use Rattle.calls.specs.Calling.{said-by}
-use Rattle.promises.specs.Day.{number-in, is-kind, Since, heard, among, last-taken, struck, strike}
+use Rattle.promises.specs.Day.{number-in, Since, heard, among, last-taken, struck, strike}
 use Rattle.promises.specs.Showing.{notice-number}
 
 -- ── what striking asks of a line, by the record that it says ──

@@ -17,7 +17,7 @@ use Rattle.rulebook.specs.Kept.{Figures, Ticket, Order, Group, Asked, Le
 use Rattle.rulebook.specs.Outcomes.{Answer, closing-line, closing}
 use Rattle.rulebook.specs.Judging.{Deed, deed, enact, named, apply, Ruling, deal-ruling, news-ruling, reply, messages, remember, book, judge}
 use Rattle.rulebook.specs.Day.{step, run, log, rest}
-use Rattle.rulebook.specs.Account.{Told, Left, left-value, Effect, no-effect, opens, moves, deal-effect, news-effect, effect-of, effect, listing, desks, told, less, tickets, after, leaves, left-open, pays, fills, effects, account}
+use Rattle.rulebook.specs.Account.{Told, Left, left-value, Effect, no-effect, opens, moves, deal-effect, news-effect, effect, listing, desks, told, less, tickets, after, leaves, left-open, pays, fills, effects, account}
 use Rattle.rulebook.specs.Rules.{tickets-at, tickets-in}
 use Rattle.rulebook.specs.Cases.{number-not, kept-number, judge-cases, deal-cases, Seen, news-cases}
 use Rattle.rulebook.specs.Retries.{Closed, deal-closed, news-closed, same-books}
