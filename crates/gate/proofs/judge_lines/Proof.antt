@@ -1,17 +1,20 @@
--- `gate::judge_lines` meets its contract: what is held after the text is what is held after the lines that are left of it.
-use mathlib.Core.Path.{_≡_, sym, ap, _∙_}
+-- `gate::judge_lines` meets its contract: what is held after the text, and what its calls leave, is what the lines that are left of it make of memory.
+use mathlib.Core.Path.{_≡_, refl, sym, ap, _∙_}
 use mathlib.Core.List.{[]}
 use Prim.Native.Nat.{_+_, _-_, _≤_}
 use native.Mathlib.Omega.{arith}
 use lib.ListN.{length, drop}
-use Rattle.lines.specs.Splitting.{rest}
+use Rattle.lines.specs.Splitting.{rest, line-at}
 use Rattle.lines.specs.Places.{step-on, step-none}
+use Rattle.promises.specs.Day.{after, left}
+use Rattle.gate.specs.Turns.{call-for, calls-for}
+use Rattle.gate.specs.Passing.{line-passed, none-passed}
 use borrow.Author.Needs.{needs}
 use Rattle.gate.proofs.judge_lines.Statement.{statement}
 use Rattle.gate.proofs.judge_lines.Tie as tie
 
 abbrev Inv-loop : tie.InvT-loop
-Inv-loop mem₀ text answers₀ count₀ at₀ mem answers count at = (length mem ≡ length mem₀) × (length answers ≡ length answers₀) × (at ≤ length text) × (rest [] text ≡ rest [] (drop at text))
+Inv-loop mem₀ text answers₀ count₀ at₀ mem answers count at = (length mem ≡ length mem₀) × (length answers ≡ length answers₀) × (at ≤ length text) × (rest [] text ≡ rest [] (drop at text)) × (left mem₀ (calls-for text) ≡ left mem (calls-for (drop at text)))
 
 abbrev μ-loop : tie.MeasureT-loop
 μ-loop mem₀ text answers₀ count₀ at₀ mem answers count at = length text - at
@@ -51,11 +54,19 @@ loop-less c = search needs
 
 loop-again : tie.Need-loop-again Inv-loop μ-loop
 loop-again c =
-    let t = c .before .before .before .before .before .before .before .before .before .before .before .before .before .before .before .before .before .args .text .now in
-    let at = c .before .before .before .before .before .before .before .before .before .before .before .before .before .loop .at in
-    let n = ap length (c .before .before .before .before .before .before .before .before .before .before .before .before .line-at .ensures .0) in
-    let s = step-on t at (omega (arith, n)) in
-    (search needs, search needs, search needs, c .before .before .before .before .before .before .before .before .before .before .before .before .before .loop .inv .3 ∙ s .after ∙ ap (λ k. rest [] (drop (at + k) t)) (sym n))
+    let d = c .before .before .before .before .before .before .before in
+    let f = d .before .before .before .before .before in
+    let t = f .before .before .before .before .before .args .text .now in
+    let at = f .before .loop .at in
+    let n = ap length (f .line-at .ensures .0) in
+    let h : 1 ≤ length (line-at t at) = omega (arith, n) in
+    (
+      search needs,
+      search needs,
+      search needs,
+      f .before .loop .inv .3 ∙ step-on t at h .after ∙ ap (λ k. rest [] (drop (at + k) t)) (sym n),
+      f .before .loop .inv .4 ∙ line-passed t at (f .before .loop .mem) _ _ _ (f .line-at .ensures .0) refl h (d .judge-line .ensures ∙ ap (λ l. after (f .before .loop .mem) (call-for l)) (d .before .before .lent .ensures)),
+    )
 
 is-written-requires : tie.Need-is-written-requires Inv-loop μ-loop
 is-written-requires c κs = search needs
@@ -68,10 +79,11 @@ same-length-4 c = search needs
 
 returns-2 : tie.Need-returns-2 Inv-loop μ-loop
 returns-2 c =
-    let t = c .before .before .before .before .before .before .before .before .before .args .text .now in
-    let at = c .before .before .before .before .before .loop .at in
-    let n = ap length (c .before .before .before .before .line-at .ensures .0) in
-    (c .before .before .before .before .before .loop .inv .2, c .before .before .before .before .before .loop .inv .3 ∙ step-none t at (omega (arith, n)) .1)
+    let d = c .before .before .before .before in
+    let t = d .before .before .before .before .before .args .text .now in
+    let at = d .before .loop .at in
+    let z : length (line-at t at) ≡ 0 = omega (arith, ap length (d .line-at .ensures .0)) in
+    (d .before .loop .inv .2, d .before .loop .inv .3 ∙ step-none t at z .1, sym (d .before .loop .inv .4 ∙ none-passed t at _ z))
 
 same-length-5 : tie.Need-same-length-5 Inv-loop μ-loop
 same-length-5 c = search needs

@@ -1,0 +1,59 @@
+-- `gate::judge_line` meets its contract: memory is what the record call leaves, and nothing after it touches it.
+use mathlib.Core.Path.{ap}
+use Rattle.calls.specs.Calling.{Recorded}
+use borrow.Author.Needs.{needs}
+use Rattle.gate.proofs.judge_line.Statement.{statement}
+use Rattle.gate.proofs.judge_line.Tie as tie
+
+slice-aggregate-record : tie.Need-slice-aggregate-record
+slice-aggregate-record c = search needs
+
+record-requires : tie.Need-record-requires
+record-requires c κs = search needs
+
+enum-known-to : tie.Need-enum-known-to
+enum-known-to c = search needs
+
+say-refused-requires : tie.Need-say-refused-requires
+say-refused-requires c κs = search needs
+
+same-length : tie.Need-same-length
+same-length c = search needs
+
+returns : tie.Need-returns
+returns c = ap (λ (r : Recorded). r .memory) (c .before .before .before .before .before .«record» .ensures)
+
+slice-aggregate-part : tie.Need-slice-aggregate-part
+slice-aggregate-part c = search needs
+
+part-requires : tie.Need-part-requires
+part-requires c κs = search needs
+
+put-line-requires : tie.Need-put-line-requires
+put-line-requires c κs = search needs
+
+same-length-2 : tie.Need-same-length-2
+same-length-2 c = search needs
+
+same-length-3 : tie.Need-same-length-3
+same-length-3 c = search needs
+
+returns-2 : tie.Need-returns-2
+returns-2 c = ap (λ (r : Recorded). r .memory) (c .before .before .before .before .before .before .before .before .before .before .before .before .«record» .ensures)
+
+pub judge-line-spec : {M : Type 1} → statement M
+judge-line-spec =
+    tie.close
+    (tie.spec
+    slice-aggregate-record
+    record-requires
+    enum-known-to
+    say-refused-requires
+    same-length
+    returns
+    slice-aggregate-part
+    part-requires
+    put-line-requires
+    same-length-2
+    same-length-3
+    returns-2)
