@@ -4,7 +4,7 @@ use mathlib.Core.List.{List, [], _∷_, map}
 use Prim.Native.Nat.{ℕ, _+_, _≤_}
 use native.Mathlib.Omega.{arith}
 use lib.ListN.{length, drop}
-use Rattle.lines.specs.Splitting.{whole, last, lent, line-at}
+use Rattle.lines.specs.Splitting.{last, lent, line-at}
 use Rattle.lines.specs.Places.{step-on, step-none}
 use Rattle.promises.specs.Day.{after, left}
 use Rattle.gate.specs.Turns.{call-for, calls-for}

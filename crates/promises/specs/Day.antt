@@ -114,8 +114,11 @@ heard none l = cond (is-kind "O" l) (some []) none
 heard (some e) l = some (l ∷ e)
 
 -- the same bytes are among these lines
+abbrev pub same-bytes : List ℕ → List ℕ → Bool
+same-bytes k l = decide (List-discrete ℕ-discrete k l)
+
 abbrev pub among : List ℕ → List (List ℕ) → Bool
-among l e = not (is-none (find (λ k. decide (List-discrete ℕ-discrete k l)) e))
+among l e = not (is-none (find (λ k. same-bytes k l) e))
 
 -- the last number that these lines took: a notice takes the next
 abbrev pub last-taken : List (List ℕ) → ℕ

@@ -1,6 +1,6 @@
 -- Striking lines is striking the records that they say: a request is identical to another exactly if its line is.
 use mathlib.Core.Path.{_≡_, refl, sym, ap, _∙_, subst}
-use mathlib.Core.Bool.{Bool, true, false, not, _&&_, _||_, cond, decide, false≢true}
+use mathlib.Core.Bool.{Bool, true, false, not, _&&_, _||_, cond, false≢true}
 use mathlib.Core.Option.{none, some}
 use mathlib.Core.List.{List, [], _∷_, List-discrete}
 use native.Mathlib.Decide.{ℕ-discrete}
@@ -20,7 +20,7 @@ use Rattle.fields.specs.Forms.{IsLine}
 use Rattle.codec.specs.Readings.{record-of}
 use Rattle.codec.specs.Lines.{read-line-of, one-line}
 use Rattle.calls.specs.Calling.{said-by}
-use Rattle.promises.specs.Day.{number-in, Since, heard, among, last-taken, struck, strike}
+use Rattle.promises.specs.Day.{Since, heard, same-bytes, among, last-taken, struck, strike}
 use Rattle.promises.specs.Showing.{notice-number}
 
 -- ── what striking asks of a line, by the record that it says ──
@@ -106,29 +106,29 @@ repeats open-day l e = false
 repeats (group m t) l e = false
 repeats (symbol s) l e = false
 
-opens-is : (x : Record) → cond (has-kind "O" x) (some []) none ≡ opens x
-opens-is broken = refl
-opens-is open-day = refl
-opens-is (group m t) = refl
-opens-is (symbol s) = refl
-opens-is (ask r) = rw (deal-kinds r .0) refl
-opens-is (tell n w) = rw (news-kinds n w .0) refl
+opens-is : (l : List ℕ) (x : Record) → said-by l ≡ x → heard none l ≡ opens x
+opens-is l broken q = rw q refl
+opens-is l open-day q = rw q refl
+opens-is l (group m t) q = rw q refl
+opens-is l (symbol s) q = rw q refl
+opens-is l (ask r) q = rw (q, deal-kinds r .0) refl
+opens-is l (tell n w) q = rw (q, news-kinds n w .0) refl
 
-takes-is : (l : List ℕ) (x : Record) → said-by l ≡ x → (k : ℕ) → cond (has-kind "QFDH" x && eqb (number-in 1 l) (suc k)) (number-in 1 l) k ≡ takes x k
-takes-is l broken q k = refl
-takes-is l open-day q k = refl
-takes-is l (group m t) q k = refl
-takes-is l (symbol s) q k = refl
-takes-is l (ask r) q k = rw (deal-kinds r .2) refl
-takes-is l (tell n w) q k = rw (news-kinds n w .2, notice-number n w l (line-said l (tell n w) q refl)) refl
+takes-is : (l : List ℕ) (x : Record) → said-by l ≡ x → (e : List (List ℕ)) → last-taken (l ∷ e) ≡ takes x (last-taken e)
+takes-is l broken q e = rw q refl
+takes-is l open-day q e = rw q refl
+takes-is l (group m t) q e = rw q refl
+takes-is l (symbol s) q e = rw q refl
+takes-is l (ask r) q e = rw (q, deal-kinds r .2) refl
+takes-is l (tell n w) q e = rw (q, news-kinds n w .2, notice-number n w l (line-said l (tell n w) q refl)) refl
 
-repeats-is : (l : List ℕ) (x : Record) → said-by l ≡ x → (e : List (List ℕ)) → cond (has-kind "NMCBR" x) (among l e) (has-kind "QFDH" x && leb (number-in 1 l) (last-taken e)) ≡ repeats x l e
-repeats-is l broken q e = refl
-repeats-is l open-day q e = refl
-repeats-is l (group m t) q e = refl
-repeats-is l (symbol s) q e = refl
-repeats-is l (ask r) q e = rw (deal-kinds r .1) refl
-repeats-is l (tell n w) q e = rw (news-kinds n w .1, news-kinds n w .2, notice-number n w l (line-said l (tell n w) q refl)) refl
+repeats-is : (l : List ℕ) (x : Record) → said-by l ≡ x → (e : List (List ℕ)) → struck (some e) l ≡ repeats x l e
+repeats-is l broken q e = rw q refl
+repeats-is l open-day q e = rw q refl
+repeats-is l (group m t) q e = rw q refl
+repeats-is l (symbol s) q e = rw q refl
+repeats-is l (ask r) q e = rw (q, deal-kinds r .1) refl
+repeats-is l (tell n w) q e = rw (q, news-kinds n w .1, news-kinds n w .2, notice-number n w l (line-said l (tell n w) q refl)) refl
 
 -- ── "Identical means equal as records, which is equal as lines" ──
 pub same-line : (k l : List ℕ) (r : Request) → said-by k ≡ ask r → said-by l ≡ ask r → k ≡ l
@@ -150,9 +150,6 @@ asks-only r open-day h = absurd (false≢true h)
 asks-only r (group m t) h = absurd (false≢true h)
 asks-only r (symbol s) h = absurd (false≢true h)
 asks-only r (tell n w) h = absurd (false≢true h)
-
-abbrev same-bytes : List ℕ → List ℕ → Bool
-same-bytes k l = decide (List-discrete ℕ-discrete k l)
 
 bytes-exact : Exact same-bytes
 bytes-exact = decide-exact (List-discrete ℕ-discrete)
@@ -208,10 +205,10 @@ noted-seen k (ask q) r h = ap (λ o. known r (cond o (q ∷ k .seen) (k .seen)))
 noted-seen k (tell n w) r h = refl
 
 pub agree-heard : (s : Since) (k : Marks) → Agree s k → (l : List ℕ) → Agree (heard s l) (noted k (said-by l))
-agree-heard none k a l = rw (a, opens-is (said-by l)) (opens-agree (said-by l))
+agree-heard none k a l = rw (a, opens-is l (said-by l) refl) (opens-agree (said-by l))
 agree-heard (some e) k a l = (
   noted-open k (said-by l) (a .0),
-  noted-last k (said-by l) (a .0) ∙ ap (takes (said-by l)) (a .1) ∙ sym (takes-is l (said-by l) refl (last-taken e)),
+  noted-last k (said-by l) (a .0) ∙ ap (takes (said-by l)) (a .1) ∙ sym (takes-is l (said-by l) refl e),
   λ j r q. noted-seen k (said-by l) r (a .0) ∙ (λ i. sym (identical l j r q) i || a .2 j r q i) ∙ sym (one-more (same-bytes l j) l (find (λ k. same-bytes k j) e)),
 )
 

@@ -1,5 +1,5 @@
 -- `gate::judge_last` meets its contract: an empty part is no line, and another is one.
-use mathlib.Core.Path.{_≡_, refl, sym, ap, _∙_}
+use mathlib.Core.Path.{_∙_}
 use borrow.Author.Needs.{needs}
 use Rattle.gate.specs.Passing.{no-part, one-part}
 use Rattle.gate.proofs.judge_last.Statement.{statement}

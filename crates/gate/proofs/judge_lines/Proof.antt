@@ -59,8 +59,7 @@ loop-again c =
     let t = f .before .before .before .before .before .args .text .now in
     let at = f .before .loop .at in
     let n = ap length (f .line-at .ensures .0) in
-    let h : 1 ≤ length (line-at t at) = omega (arith, n) in
-    (
+    let h : 1 ≤ length (line-at t at) = omega (arith, n) in (
       search needs,
       search needs,
       search needs,
