@@ -1,12 +1,12 @@
 -- Striking lines is striking the records that they say: a request is identical to another exactly if its line is.
 use mathlib.Core.Path.{_≡_, refl, sym, ap, _∙_, subst}
-use mathlib.Core.Bool.{Bool, true, false, not, _&&_, _||_, cond, false≢true}
+use mathlib.Core.Bool.{Bool, true, false, not, _||_, cond, false≢true}
 use mathlib.Core.Option.{none, some}
 use mathlib.Core.List.{List, [], _∷_, List-discrete}
 use native.Mathlib.Decide.{ℕ-discrete}
-use Prim.Native.Nat.{ℕ, suc}
+use Prim.Native.Nat.{ℕ}
 use Prim.Native.String.{String}
-use lib.Dec.{leb, eqb}
+use lib.Dec.{eqb}
 use Rattle.laws.specs.Tests.{on, is-none, one-more, Exact, decide-exact}
 use Rattle.laws.specs.Tables.{find}
 use Rattle.rulebook.specs.Names.{bytes}
@@ -20,12 +20,25 @@ use Rattle.fields.specs.Forms.{IsLine}
 use Rattle.codec.specs.Readings.{record-of}
 use Rattle.codec.specs.Lines.{read-line-of, one-line}
 use Rattle.calls.specs.Calling.{said-by}
-use Rattle.promises.specs.Day.{Since, heard, same-bytes, among, last-taken, struck, strike}
+use Rattle.promises.specs.Day.{is-kind, Since, heard, same-bytes, among, last-taken, struck, strike}
 use Rattle.promises.specs.Showing.{notice-number}
 
--- ── what striking asks of a line, by the record that it says ──
-abbrev has-kind : String → Record → Bool
+-- ── a record, to striking ──
+abbrev pub has-kind : String → Record → Bool
 has-kind s x = not (is-none (find (eqb (line-of x .kind)) (bytes s)))
+
+-- neither an O nor a request nor a notice: it marks nothing and is never struck
+abbrev Plain : Record → Type 0
+Plain x = (has-kind "O" x ≡ false) × (has-kind "NMCBR" x ≡ false) × (has-kind "QFDH" x ≡ false) × ((k : Marks) → noted k x ≡ k) × ((k : Marks) → day.struck k x ≡ false)
+
+by-sort : (P : Record → Type 0) → P open-day → ((r : Request) → P (ask r)) → ((n : ℕ) (w : News) → P (tell n w)) → ((x : Record) → Plain x → P x) → (x : Record) → P x
+unfolding noted day.struck
+by-sort P o r n p open-day = o
+by-sort P o r n p (ask q) = r q
+by-sort P o r n p (tell k w) = n k w
+by-sort P o r n p broken = p broken (refl, refl, refl, λ k. refl, λ k. refl)
+by-sort P o r n p (group m t) = p (group m t) (refl, refl, refl, λ k. refl, λ k. refl)
+by-sort P o r n p (symbol s) = p (symbol s) (refl, refl, refl, λ k. refl, λ k. refl)
 
 -- a request is of no other kind, and neither is a notice
 deal-kinds : (r : Request) → (has-kind "O" (ask r) ≡ false) × (has-kind "NMCBR" (ask r) ≡ true) × (has-kind "QFDH" (ask r) ≡ false)
@@ -44,120 +57,44 @@ news-kinds n (fill k z p) = (refl, refl, refl)
 news-kinds n (reduction k z) = (refl, refl, refl)
 news-kinds n (cancel-refused k) = (refl, refl, refl)
 
--- a line that says a record other than `broken` is its line
-abbrev is-whole : Record → Bool
-is-whole broken = false
-is-whole open-day = true
-is-whole (group m t) = true
-is-whole (symbol s) = true
-is-whole (ask r) = true
-is-whole (tell n w) = true
-
-line-said : (l : List ℕ) (x : Record) → said-by l ≡ x → is-whole x ≡ true → IsLine (line-of x) l
-line-said l x q h = subst (λ x. IsLine (line-of x) l) q (read-line-of l (λ e. false≢true (ap is-whole (sym (ap (record-of l) e) ∙ q) ∙ h)))
+-- a test that is false of one thing and true of the other tells them apart
+not-both : {A : Type 0} {b : Bool} → b ≡ false → b ≡ true → A
+not-both e h = absurd (false≢true (sym e ∙ h))
 
 -- THEOREM. A request line says a request, a notice line a notice, and an O line that the day opens
 pub request-said : (x : Record) → has-kind "NMCBR" x ≡ true → (r : Request) × (x ≡ ask r)
-request-said broken h = absurd (false≢true h)
-request-said open-day h = absurd (false≢true h)
-request-said (group m t) h = absurd (false≢true h)
-request-said (symbol s) h = absurd (false≢true h)
-request-said (ask r) h = (r, refl)
-request-said (tell n w) h = absurd (false≢true (sym (news-kinds n w .1) ∙ h))
+request-said = by-sort (λ x. has-kind "NMCBR" x ≡ true → (r : Request) × (x ≡ ask r)) (not-both refl) (λ r h. (r, refl)) (λ n w. not-both (news-kinds n w .1)) (λ x p. not-both (p .1))
 
 pub notice-said : (x : Record) → has-kind "QFDH" x ≡ true → (n : ℕ) × (w : News) × (x ≡ tell n w)
-notice-said broken h = absurd (false≢true h)
-notice-said open-day h = absurd (false≢true h)
-notice-said (group m t) h = absurd (false≢true h)
-notice-said (symbol s) h = absurd (false≢true h)
-notice-said (ask r) h = absurd (false≢true (sym (deal-kinds r .2) ∙ h))
-notice-said (tell n w) h = (n, w, refl)
+notice-said = by-sort (λ x. has-kind "QFDH" x ≡ true → (n : ℕ) × (w : News) × (x ≡ tell n w)) (not-both refl) (λ r. not-both (deal-kinds r .2)) (λ n w h. (n, w, refl)) (λ x p. not-both (p .2))
 
 pub opening-said : (x : Record) → has-kind "O" x ≡ true → x ≡ open-day
-opening-said broken h = absurd (false≢true h)
-opening-said open-day h = refl
-opening-said (group m t) h = absurd (false≢true h)
-opening-said (symbol s) h = absurd (false≢true h)
-opening-said (ask r) h = absurd (false≢true (sym (deal-kinds r .0) ∙ h))
-opening-said (tell n w) h = absurd (false≢true (sym (news-kinds n w .0) ∙ h))
+opening-said = by-sort (λ x. has-kind "O" x ≡ true → x ≡ open-day) (λ h. refl) (λ r. not-both (deal-kinds r .0)) (λ n w. not-both (news-kinds n w .0)) (λ x p. not-both (p .0))
 
--- by the record: an O opens, a notice takes its number, a request or a notice repeats an earlier one
-abbrev opens : Record → Since
-opens open-day = some []
-opens broken = none
-opens (group m t) = none
-opens (symbol s) = none
-opens (ask r) = none
-opens (tell n w) = none
-
-abbrev takes : Record → ℕ → ℕ
-takes (tell n w) k = cond (eqb n (suc k)) n k
-takes broken k = k
-takes open-day k = k
-takes (group m t) k = k
-takes (symbol s) k = k
-takes (ask r) k = k
-
-abbrev repeats : Record → List ℕ → List (List ℕ) → Bool
-repeats (ask r) l e = among l e
-repeats (tell n w) l e = leb n (last-taken e)
-repeats broken l e = false
-repeats open-day l e = false
-repeats (group m t) l e = false
-repeats (symbol s) l e = false
-
-opens-is : (l : List ℕ) (x : Record) → said-by l ≡ x → heard none l ≡ opens x
-opens-is l broken q = rw q refl
-opens-is l open-day q = rw q refl
-opens-is l (group m t) q = rw q refl
-opens-is l (symbol s) q = rw q refl
-opens-is l (ask r) q = rw (q, deal-kinds r .0) refl
-opens-is l (tell n w) q = rw (q, news-kinds n w .0) refl
-
-takes-is : (l : List ℕ) (x : Record) → said-by l ≡ x → (e : List (List ℕ)) → last-taken (l ∷ e) ≡ takes x (last-taken e)
-takes-is l broken q e = rw q refl
-takes-is l open-day q e = rw q refl
-takes-is l (group m t) q e = rw q refl
-takes-is l (symbol s) q e = rw q refl
-takes-is l (ask r) q e = rw (q, deal-kinds r .2) refl
-takes-is l (tell n w) q e = rw (q, news-kinds n w .2, notice-number n w l (line-said l (tell n w) q refl)) refl
-
-repeats-is : (l : List ℕ) (x : Record) → said-by l ≡ x → (e : List (List ℕ)) → struck (some e) l ≡ repeats x l e
-repeats-is l broken q e = rw q refl
-repeats-is l open-day q e = rw q refl
-repeats-is l (group m t) q e = rw q refl
-repeats-is l (symbol s) q e = rw q refl
-repeats-is l (ask r) q e = rw (q, deal-kinds r .1) refl
-repeats-is l (tell n w) q e = rw (q, news-kinds n w .1, news-kinds n w .2, notice-number n w l (line-said l (tell n w) q refl)) refl
+-- a line of a kind is the line of the record that it says
+line-said : (s : String) → has-kind s broken ≡ false → (l : List ℕ) (x : Record) → said-by l ≡ x → has-kind s x ≡ true → IsLine (line-of x) l
+line-said s b l x q h = subst (λ x. IsLine (line-of x) l) q (read-line-of l (λ e. not-both b (ap (has-kind s) (sym (ap (record-of l) e) ∙ q) ∙ h)))
 
 -- ── "Identical means equal as records, which is equal as lines" ──
 pub same-line : (k l : List ℕ) (r : Request) → said-by k ≡ ask r → said-by l ≡ ask r → k ≡ l
-same-line k l r p q = one-line (ask r) k l (line-said k (ask r) p refl) (line-said l (ask r) q refl)
-
--- this record asks for the same
-abbrev asks : Request → Record → Bool
-asks r (ask q) = same-request q r
-asks r broken = false
-asks r open-day = false
-asks r (group m t) = false
-asks r (symbol s) = false
-asks r (tell n w) = false
-
-asks-only : (r : Request) (x : Record) → asks r x ≡ true → x ≡ ask r
-asks-only r (ask q) h = ap {B = Record} ask (request-exact .only q r h)
-asks-only r broken h = absurd (false≢true h)
-asks-only r open-day h = absurd (false≢true h)
-asks-only r (group m t) h = absurd (false≢true h)
-asks-only r (symbol s) h = absurd (false≢true h)
-asks-only r (tell n w) h = absurd (false≢true h)
+same-line k l r p q = let h = deal-kinds r .1 in one-line (ask r) k l (line-said "NMCBR" refl k (ask r) p h) (line-said "NMCBR" refl l (ask r) q h)
 
 bytes-exact : Exact same-bytes
 bytes-exact = decide-exact (List-discrete ℕ-discrete)
 
-identical : (k l : List ℕ) (r : Request) → said-by l ≡ ask r → same-bytes k l ≡ asks r (said-by k)
-identical k l r q = on (λ b. b ≡ asks r (said-by k)) (same-bytes k l)
-    (λ h. sym (ap (λ k. asks r (said-by k)) (bytes-exact .only k l h) ∙ ap (asks r) q ∙ request-exact .self r))
-    (λ h. on (λ b. false ≡ b) (asks r (said-by k)) (λ e. sym h ∙ ap (λ k. same-bytes k l) (same-line k l r (asks-only r (said-by k) e) q) ∙ bytes-exact .self l) (λ e. refl))
+-- the request that a record asks, or another
+abbrev asked-or : Request → Record → Request
+asked-or r (ask q) = q
+asked-or r open-day = r
+asked-or r (tell n w) = r
+asked-or r broken = r
+asked-or r (group m t) = r
+asked-or r (symbol s) = r
+
+identical : (k l : List ℕ) (q r : Request) → said-by k ≡ ask q → said-by l ≡ ask r → same-request q r ≡ same-bytes k l
+identical k l q r p z = on (λ b. b ≡ same-bytes k l) (same-request q r)
+    (λ h. sym (ap (λ k. same-bytes k l) (same-line k l r (p ∙ ap {B = Record} ask (request-exact .only q r h)) z) ∙ bytes-exact .self l))
+    (λ h. on (λ b. false ≡ b) (same-bytes k l) (λ e. not-both h (ap (λ q. same-request q r) (ap (asked-or r) (sym p ∙ ap said-by (bytes-exact .only k l e) ∙ z)) ∙ request-exact .self r)) (λ e. refl))
 
 -- ── what lines and records have in common ──
 abbrev known : Request → List Request → Bool
@@ -167,72 +104,61 @@ abbrev pub Agree : Since → Marks → Type 0
 Agree none k = k ≡ no-marks
 Agree (some e) k = (k .opened ≡ true) × (k .last ≡ last-taken e) × ((l : List ℕ) (r : Request) → said-by l ≡ ask r → known r (k .seen) ≡ among l e)
 
-opens-agree : (x : Record) → Agree (opens x) (noted no-marks x)
-unfolding noted
-opens-agree broken = refl
-opens-agree open-day = (refl, refl, λ l r q. refl)
-opens-agree (group m t) = refl
-opens-agree (symbol s) = refl
-opens-agree (ask r) = refl
-opens-agree (tell n w) = refl
+module _ (l : List ℕ) (e : List (List ℕ)) (k : Marks) (a : Agree (some e) k) where
+  -- a notice that is next takes its number, and what is no notice takes none
+  next-taken : (n : ℕ) (w : News) → said-by l ≡ tell n w → noted k (tell n w) .last ≡ last-taken (l ∷ e)
+  unfolding noted
+  next-taken n w q = let h = news-kinds n w .2 in rw (a .0, a .1, ap (has-kind "QFDH") q ∙ h, notice-number n w l (line-said "QFDH" refl l (tell n w) q h)) refl
 
--- after opening, record by record
-noted-open : (k : Marks) (x : Record) → k .opened ≡ true → noted k x .opened ≡ true
-unfolding noted
-noted-open k broken h = h
-noted-open k open-day h = refl
-noted-open k (group m t) h = h
-noted-open k (symbol s) h = h
-noted-open k (ask r) h = h
-noted-open k (tell n w) h = h
+  none-taken : is-kind "QFDH" l ≡ false → k .last ≡ last-taken (l ∷ e)
+  none-taken h = a .1 ∙ rw h refl
 
-noted-last : (k : Marks) (x : Record) → k .opened ≡ true → noted k x .last ≡ takes x (k .last)
-unfolding noted
-noted-last k broken h = refl
-noted-last k open-day h = refl
-noted-last k (group m t) h = refl
-noted-last k (symbol s) h = refl
-noted-last k (ask r) h = refl
-noted-last k (tell n w) h = ap (λ o. cond (o && eqb n (suc (k .last))) n (k .last)) h
+  -- a request is known from then on, and what is none makes none known
+  now-known : (q : Request) → said-by l ≡ ask q → (j : List ℕ) (r : Request) → said-by j ≡ ask r → known r (noted k (ask q) .seen) ≡ among j (l ∷ e)
+  unfolding noted
+  now-known q p j r z = ap (λ o. known r (cond o (q ∷ k .seen) (k .seen))) (a .0) ∙ one-more (same-request q r) q (find (λ q. same-request q r) (k .seen))
+      ∙ (λ i. identical l j q r p z i || a .2 j r z i) ∙ sym (one-more (same-bytes l j) l (find (λ k. same-bytes k j) e))
 
-noted-seen : (k : Marks) (x : Record) (r : Request) → k .opened ≡ true → known r (noted k x .seen) ≡ (asks r x || known r (k .seen))
+  none-known : is-kind "NMCBR" l ≡ false → (j : List ℕ) (r : Request) → said-by j ≡ ask r → known r (k .seen) ≡ among j (l ∷ e)
+  none-known h j r z =
+      let d : same-bytes l j ≡ false = on (λ b. b ≡ false) (same-bytes l j) (λ y. not-both h (ap (is-kind "NMCBR") (bytes-exact .only l j y) ∙ ap (has-kind "NMCBR") z ∙ deal-kinds r .1)) (λ y. refl) in
+      a .2 j r z ∙ rw d refl
+
+  agree-next : Agree (some (l ∷ e)) (noted k (said-by l))
+  unfolding noted
+  agree-next = by-sort (λ x. said-by l ≡ x → Agree (some (l ∷ e)) (noted k x))
+      (λ q. (refl, none-taken (ap (has-kind "QFDH") q), none-known (ap (has-kind "NMCBR") q)))
+      (λ r q. (a .0, none-taken (ap (has-kind "QFDH") q ∙ deal-kinds r .2), now-known r q))
+      (λ n w q. (a .0, next-taken n w q, none-known (ap (has-kind "NMCBR") q ∙ news-kinds n w .1)))
+      (λ x p q. subst (Agree (some (l ∷ e))) (sym (p .3 k)) (a .0, none-taken (ap (has-kind "QFDH") q ∙ p .2), none-known (ap (has-kind "NMCBR") q ∙ p .1)))
+      (said-by l) refl
+
+  struck-next : struck (some e) l ≡ day.struck k (said-by l)
+  unfolding day.struck
+  struck-next = by-sort (λ x. said-by l ≡ x → struck (some e) l ≡ day.struck k x)
+      (λ q. rw q refl)
+      (λ r q. rw (ap (has-kind "NMCBR") q ∙ deal-kinds r .1) (sym (a .2 l r q)))
+      (λ n w q. let h = news-kinds n w in rw (ap (has-kind "NMCBR") q ∙ h .1, ap (has-kind "QFDH") q ∙ h .2, notice-number n w l (line-said "QFDH" refl l (tell n w) q (h .2)), a .0, a .1) refl)
+      (λ x p q. rw (ap (has-kind "NMCBR") q ∙ p .1, ap (has-kind "QFDH") q ∙ p .2) (sym (p .4 k)))
+      (said-by l) refl
+
+first-heard : (l : List ℕ) → Agree (heard none l) (noted no-marks (said-by l))
 unfolding noted
-noted-seen k broken r h = refl
-noted-seen k open-day r h = refl
-noted-seen k (group m t) r h = refl
-noted-seen k (symbol s) r h = refl
-noted-seen k (ask q) r h = ap (λ o. known r (cond o (q ∷ k .seen) (k .seen))) h ∙ one-more (same-request q r) q (find (λ q. same-request q r) (k .seen))
-noted-seen k (tell n w) r h = refl
+first-heard l = by-sort (λ x. said-by l ≡ x → Agree (heard none l) (noted no-marks x))
+    (λ q. rw q (refl, refl, λ l r q. refl))
+    (λ r q. rw (ap (has-kind "O") q ∙ deal-kinds r .0) refl)
+    (λ n w q. rw (ap (has-kind "O") q ∙ news-kinds n w .0) refl)
+    (λ x p q. rw (ap (has-kind "O") q ∙ p .0) (p .3 no-marks))
+    (said-by l) refl
 
 pub agree-heard : (s : Since) (k : Marks) → Agree s k → (l : List ℕ) → Agree (heard s l) (noted k (said-by l))
-agree-heard none k a l = rw (a, opens-is l (said-by l) refl) (opens-agree (said-by l))
-agree-heard (some e) k a l = (
-  noted-open k (said-by l) (a .0),
-  noted-last k (said-by l) (a .0) ∙ ap (takes (said-by l)) (a .1) ∙ sym (takes-is l (said-by l) refl e),
-  λ j r q. noted-seen k (said-by l) r (a .0) ∙ (λ i. sym (identical l j r q) i || a .2 j r q i) ∙ sym (one-more (same-bytes l j) l (find (λ k. same-bytes k j) e)),
-)
-
-none-struck : (x : Record) → day.struck no-marks x ≡ false
-unfolding day.struck
-none-struck broken = refl
-none-struck open-day = refl
-none-struck (group m t) = refl
-none-struck (symbol s) = refl
-none-struck (ask r) = refl
-none-struck (tell n w) = refl
-
-repeats-same : (e : List (List ℕ)) (k : Marks) → Agree (some e) k → (l : List ℕ) (x : Record) → said-by l ≡ x → repeats x l e ≡ day.struck k x
-unfolding day.struck
-repeats-same e k a l broken q = refl
-repeats-same e k a l open-day q = refl
-repeats-same e k a l (group m t) q = refl
-repeats-same e k a l (symbol s) q = refl
-repeats-same e k a l (ask r) q = sym (a .2 l r q)
-repeats-same e k a l (tell n w) q = rw (a .0, a .1) refl
+agree-heard none k a l = rw a (first-heard l)
+agree-heard (some e) k a l = agree-next l e k a
 
 pub struck-same : (s : Since) (k : Marks) → Agree s k → (l : List ℕ) → struck s l ≡ day.struck k (said-by l)
-struck-same none k a l = rw a (sym (none-struck (said-by l)))
-struck-same (some e) k a l = repeats-is l (said-by l) refl e ∙ repeats-same e k a l (said-by l) refl
+unfolding day.struck
+struck-same none k a l = rw a (by-sort (λ x. false ≡ day.struck no-marks x) refl (λ r. refl) (λ n w. refl) (λ x p. sym (p .4 no-marks)) (said-by l))
+struck-same (some e) k a l = struck-next l e k a
 
 -- THEOREM. What striking leaves of lines is what the rulebook leaves of the records that they say
 pub strike-same : {A : Type 0} (f : A → List ℕ) (s : Since) (k : Marks) → Agree s k → (xs : List A) → strike f s xs ≡ day.strike (λ x. said-by (f x)) k xs
