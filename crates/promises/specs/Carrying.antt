@@ -1,7 +1,7 @@
 -- A day over the public calls is a day of the rulebook: its memory and its answer lines go by the lines alone, and say the books and the answers.
 use mathlib.Core.Path.{_≡_, refl, sym, ap, ap₂, _∙_, subst}
 use mathlib.Core.Bool.{true, cond}
-use mathlib.Core.List.{List, [], _∷_, _++_, map, foldl}
+use mathlib.Core.List.{List, [], _∷_, map, foldl}
 use Prim.Native.Nat.{ℕ, _≤_}
 use Prim.Native.Char.{code}
 use lib.ListN.{length, drop, take}
@@ -59,10 +59,6 @@ all-booked m ls = foldl booked m ls
 abbrev pub all-answered : Books → List (List ℕ) → List Reply
 all-answered b [] = []
 all-answered b (l ∷ ls) = answered b l ∷ all-answered (step b (said-by l)) ls
-
-pub replies-parted : (m : List ℕ) (cs ds : List Call) → replies m (cs ++ ds) ≡ replies m cs ++ replies (left m cs) ds
-replies-parted m [] ds = refl
-replies-parted m (c ∷ cs) ds = ap (λ rs. reply m c ∷ rs) (replies-parted (after m c) cs ds)
 
 pub left-ok : (m : List ℕ) (cs : List Call) → state-ok m ≡ true → state-ok (left m cs) ≡ true
 left-ok m [] e = e

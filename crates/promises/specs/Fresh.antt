@@ -19,17 +19,17 @@ use Rattle.rules.specs.Testing.{state-ok}
 use Rattle.rules.specs.Meaning.{exactly}
 use Rattle.calls.specs.Calling.{said-by}
 use Rattle.calls.specs.Keeping.{fresh-state}
-use Rattle.promises.specs.Day.{Call, lines, Ample, after, left, Reply, reply, replies, Since, heard, rest, rest-replies, struck-after, shown, tells}
+use Rattle.promises.specs.Day.{Call, lines, Ample, left, Reply, reply, replies, Since, heard, rest, rest-replies, shown, tells}
 use Rattle.promises.specs.Showing.{shows}
 use Rattle.promises.specs.Striking.{Fair, fresh-fair, fair-step}
-use Rattle.promises.specs.Carrying.{all-booked, all-answered, after-is, reply-is, left-ok, left-is, replies-are, booked-all, struck-booked, booked-struck, answered-struck, answered-shown, all-told}
+use Rattle.promises.specs.Carrying.{all-booked, all-answered, reply-is, left-ok, left-is, replies-are, booked-all, booked-struck, answered-struck, answered-shown, all-told}
 use Rattle.promises.specs.Attempts.{records}
 
 fair-run : (s : Since) (b : Books) → Fair s b → (ls : List (List ℕ)) → Fair (foldl heard s ls) (run b (map said-by ls))
 fair-run s b f [] = f
 fair-run s b f (l ∷ ls) = fair-run (heard s l) (step b (said-by l)) (fair-step s b f l) ls
 
-all-answer : (b : Books) (ls : List (List ℕ)) → All (λ (r : Reply). r .number ≡ 0) (all-answered b ls)
+pub all-answer : (b : Books) (ls : List (List ℕ)) → All (λ (r : Reply). r .number ≡ 0) (all-answered b ls)
 all-answer b [] = tt
 all-answer b (l ∷ ls) = (refl, all-answer (step b (said-by l)) ls)
 
@@ -58,9 +58,6 @@ module _ (m : List ℕ) (long : least-words ≤ length m) where
     pub replies-is : replies (made-words m) cs ≡ all-answered (view (made-words m)) (lines cs)
     replies-is = replies-are (made-words m) cs a fresh-ok
 
-    pub all-replied : All (λ (r : Reply). r .number ≡ 0) (replies (made-words m) cs)
-    all-replied = subst (All (λ (r : Reply). r .number ≡ 0)) (sym replies-is) (all-answer (view (made-words m)) (lines cs))
-
     pub day-says : view (left (made-words m) cs) ≡ run (fresh-books (room-of m)) (records cs)
     day-says = ap view memory-is ∙ booked-all (made-words m) (lines cs) fresh-ok ∙ ap (λ b. run b (records cs)) fresh-says
 
@@ -77,12 +74,10 @@ module _ (m : List ℕ) (long : least-words ≤ length m) where
     pub rest-tells : tells (rest-replies (replies (made-words m) cs)) ≡ sums.tells (fresh-books (room-of m)) (map said-by (rest (lines cs)))
     rest-tells = ap tells same-replies ∙ all-told (view (made-words m)) (rest (lines cs)) (exactly (made-words m) .0 fresh-ok .sound) ∙ ap (λ b. sums.tells b (map said-by (rest (lines cs)))) fresh-says
 
-    -- a call more
-    module _ (c : Call) (h : 32 ≤ length (c .buffer)) where
-      pub next-shown : (x : Record) → said-by (c .line) ≡ x → shown (reply (left (made-words m) cs) c .answer) ≡ shows (judge (run (fresh-books (room-of m)) (records cs)) x .answer)
-      next-shown x q = ap (λ (r : Reply). shown (r .answer)) (reply-is (left (made-words m) cs) c h day-ok) ∙ answered-shown (view (left (made-words m) cs)) (c .line) (exactly (left (made-words m) cs) .0 day-ok .sound)
-          ∙ (λ i. shows (judge (day-says i) (q i) .answer))
+    pub day-fair : Fair (foldl heard none (lines cs)) (view (left (made-words m) cs))
+    day-fair = subst (Fair (foldl heard none (lines cs))) (sym day-says) (fair-run none (fresh-books (room-of m)) (fresh-fair (room-of m)) (lines cs))
 
-      pub next-unchanged : struck-after (lines cs) (c .line) ≡ true → after (left (made-words m) cs) c ≡ left (made-words m) cs
-      next-unchanged s = after-is (left (made-words m) cs) c h day-ok
-          ∙ struck-booked (foldl heard none (lines cs)) (left (made-words m) cs) (subst (Fair (foldl heard none (lines cs))) (sym day-says) (fair-run none (fresh-books (room-of m)) (fresh-fair (room-of m)) (lines cs))) (c .line) s
+    -- what the next call's answer line shows
+    pub next-shown : (c : Call) → 32 ≤ length (c .buffer) → (x : Record) → said-by (c .line) ≡ x → shown (reply (left (made-words m) cs) c .answer) ≡ shows (judge (run (fresh-books (room-of m)) (records cs)) x .answer)
+    next-shown c h x q = ap (λ (r : Reply). shown (r .answer)) (reply-is (left (made-words m) cs) c h day-ok) ∙ answered-shown (view (left (made-words m) cs)) (c .line) (exactly (left (made-words m) cs) .0 day-ok .sound)
+        ∙ (λ i. shows (judge (day-says i) (q i) .answer))

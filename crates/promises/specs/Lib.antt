@@ -7,7 +7,6 @@ pub mod Carrying
 pub mod Closing
 pub mod Attempts
 pub mod Fresh
-pub mod Replying
 -- and what it says
 pub mod Promises
 pub mod Examples
