@@ -68,8 +68,8 @@ closed-again m i b = elim (decLt (length b) 96) [
   | no h ↦ long (omega (arith, h))
 ]
   where
-    shown : 96 ≤ length b → state-ok m ≡ true → (g : Group) → group-at m i ≡ some g → closed m i (closed m i b .buffer) ≡ closed m i b
-    shown h e g q =
+    same-line : 96 ≤ length b → state-ok m ≡ true → (g : Group) → group-at m i ≡ some g → closed m i (closed m i b .buffer) ≡ closed m i b
+    same-line h e g q =
         let cs = closing-of m g in
         let w = closing-line-of m i b g h e q in
         let z : 96 ≤ length (begun cs b) = omega (arith, begun-length cs b (omega (arith, closing-written m i g e q .1))) in
@@ -77,5 +77,5 @@ closed-again m i b = elim (decLt (length b) 96) [
 
     long : 96 ≤ length b → closed m i (closed m i b .buffer) ≡ closed m i b
     long h = on (λ t. state-ok m ≡ t → closed m i (closed m i b .buffer) ≡ closed m i b) (state-ok m)
-        (λ z e. opt (λ o. group-at m i ≡ o → closed m i (closed m i b .buffer) ≡ closed m i b) (group-at m i) (λ y q. refused-again m i 5 b (closing-unlisted m i b h e q)) (λ g y q. shown h e g q) refl)
+        (λ z e. opt (λ o. group-at m i ≡ o → closed m i (closed m i b .buffer) ≡ closed m i b) (group-at m i) (λ y q. refused-again m i 5 b (closing-unlisted m i b h e q)) (λ g y q. same-line h e g q) refl)
         (λ z e. refused-again m i 22 b (closing-bad-state m i b h e)) refl
