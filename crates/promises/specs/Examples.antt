@@ -1,15 +1,14 @@
--- Document 01's day over the public calls, byte for byte, and the useless gates of "What a desk may hold us to": none meets the record call's statement.
+-- Document 01's day over the public calls, byte for byte.
 use mathlib.Core.Path.{_≡_, refl, sym, ap, _∙_, subst}
 use mathlib.Core.Bool.{true}
 use mathlib.Core.Option.{Option, none, some, Option·map, Option·none-ne-some, Option·some-injective}
-use mathlib.Core.List.{List, [], _∷_, _++_, map}
+use mathlib.Core.List.{List, [], _∷_, map}
 use Prim.Native.Nat.{ℕ, _+_, _*_, _≤_}
 use Prim.Native.Char.{code}
 use native.Mathlib.Omega.{arith}
-use lib.ListN.{length, replicate, length-replicate, take, getElem?}
+use lib.ListN.{length, getElem?}
 use Rattle.laws.specs.Tests.{opt}
 use Rattle.rulebook.specs.Kept.{Group, Books, fresh-books, tally}
-use Rattle.rulebook.specs.Judging.{judge}
 use Rattle.rulebook.specs.Day as day
 use Rattle.rulebook.specs.Day.{run, no-marks, noted}
 use Rattle.rulebook.specs.Examples.{judging}
@@ -21,14 +20,13 @@ use Rattle.books.specs.Layout.{least-words, place-words, room-for, room-of}
 use Rattle.books.specs.View.{view}
 use Rattle.store.specs.Making.{made-words}
 use Rattle.rules.specs.Testing.{state-ok}
-use Rattle.calls.specs.Calling.{said-by, closing-of, Recorded, recorded, group-at}
-use Rattle.promises.specs.Day.{Call, lines, Ample, left, Reply, replies, sheet, is-kind, Shown, shown, rest}
-use Rattle.promises.specs.Showing.{shows}
+use Rattle.calls.specs.Calling.{said-by, closing-of, group-at}
+use Rattle.promises.specs.Day.{Call, lines, Ample, left, Reply, replies, sheet, rest}
 use Rattle.promises.specs.Striking.{strike-same}
 use Rattle.promises.specs.Carrying.{all-answered}
 use Rattle.promises.specs.Attempts.{records}
 use Rattle.promises.specs.Closing.{sheet-some}
-use Rattle.promises.specs.Fresh.{day-ok, day-says, replies-is, fresh-says, next-shown}
+use Rattle.promises.specs.Fresh.{day-ok, day-says, replies-is, fresh-says}
 
 -- "Tabs are shown as spaces": the answers that the paper prints
 abbrev pub sample-answers : List (List ℕ)
@@ -90,7 +88,7 @@ module _ (m : List ℕ) (size : length m ≡ words-of-400) where
   pub enough : least-words ≤ length m
   enough = subst (λ n. least-words ≤ n) (sym size) (omega arith)
 
-  room : room-of m ≡ 400
+  pub room : room-of m ≡ 400
   room = ap room-for size ∙ room-of-400
 
   pub says-400 : (cs : List Call) → Ample cs → view (left (made-words m) cs) ≡ run (fresh-books 400) (records cs)
@@ -106,86 +104,3 @@ module _ (m : List ℕ) (size : length m ≡ words-of-400) where
     pub sample-sheet : (b : List ℕ) → 96 ≤ length b → sheet (left (made-words m) cs) 0 b ≡ record { number = 0; line = printed "E ABCD 399600000 0 0 0 N" }
     unfolding computing judging tails digits digits-in
     sample-sheet b h = sheet-at (left (made-words m) cs) 0 b _ h (day-ok m enough cs a) (ap (λ x. closing-at x 0) (says-400 cs a ∙ ap (λ ls. run (fresh-books 400) (map said-by ls)) e))
-
--- ── useless gates ──
--- anything that leaves something of a memory, a line and a buffer; it meets the record call's statement if it leaves what that says
-abbrev pub Gate : Type 0
-Gate = List ℕ → List ℕ → List ℕ → Recorded
-
-abbrev pub Meets : Gate → Type 0
-Meets G = (m l b : List ℕ) → G m l b ≡ recorded m l b
-
--- "one that refuses all": every request, whatever was before
-abbrev pub RefusesAll : Gate → Type 0
-RefusesAll G = (m l b : List ℕ) → 32 ≤ length b → is-kind "NMCBR" l ≡ true → let r = G m l b in shown (take (r .said .bytes) (r .buffer)) .outcome ≡ code "R"
-
--- "one that answers and books nothing": no request and no notice changes its memory
-abbrev pub BooksNothing : Gate → Type 0
-BooksNothing G = (m l b : List ℕ) → is-kind "NMCBRQFDH" l ≡ true → G m l b .memory ≡ m
-
--- "one that books the first record and then only talks": once a request or a notice has changed its memory, none does
-abbrev pub BooksFirstOnly : Gate → Type 0
-BooksFirstOnly G = (m l b k c : List ℕ) → is-kind "NMCBRQFDH" l ≡ true → is-kind "NMCBRQFDH" k ≡ true → (G m l b .memory ≡ m → ⊥) → G (G m l b .memory) k c .memory ≡ G m l b .memory
-
--- a day with one order and a fill of it
-abbrev spare : List ℕ
-spare = replicate 32 0
-
-abbrev order : List ℕ
-order = printed "N T1 ABCD 7 B 100 10000000"
-
-abbrev filled : List ℕ
-filled = printed "F 2 ABCD T1 40 9990000"
-
-abbrev before-it : List (List ℕ)
-before-it = take 4 sample-lines
-
-abbrev calls : List (List ℕ) → List Call
-calls ls = map (λ l. record { line = l; buffer = spare }) ls
-
-ample : (ls : List (List ℕ)) → Ample (calls ls)
-ample [] = tt
-ample (l ∷ ls) = (omega arith, ample ls)
-
-abbrev lent : List ℕ
-lent = replicate words-of-400 0
-
-abbrev memory : List (List ℕ) → List ℕ
-memory ls = left (made-words lent) (calls ls)
-
-says : (ls : List (List ℕ)) → view (memory ls) ≡ run (fresh-books 400) (records (calls ls))
-says ls = says-400 lent (length-replicate {A = ℕ} words-of-400 0) (calls ls) (ample ls)
-
-kinds : (is-kind "NMCBR" order ≡ true) × (is-kind "NMCBRQFDH" order ≡ true) × (is-kind "NMCBRQFDH" filled ≡ true)
-unfolding computing
-kinds = (refl, refl, refl)
-
--- how many places are taken, and which number was last, before it, with it and after its fill
-counted : (length (run (fresh-books 400) (records (calls before-it)) .asked) ≡ 0) × (length (run (fresh-books 400) (records (calls (before-it ++ (order ∷ [])))) .asked) ≡ 1) ×
-    (run (fresh-books 400) (records (calls (before-it ++ (order ∷ [])))) .last ≡ 1) × (run (fresh-books 400) (records (calls (before-it ++ (order ∷ filled ∷ [])))) .last ≡ 2)
-unfolding computing judging
-counted = (refl, refl, refl, refl)
-
-order-books : memory (before-it ++ (order ∷ [])) ≡ memory before-it → ⊥
-order-books e = let z : _≡_ {A = ℕ} 1 0 = sym (counted .1) ∙ ap (λ (b : Books). length (b .asked)) (sym (says (before-it ++ (order ∷ []))) ∙ ap view e ∙ says before-it) ∙ counted .0 in omega arith
-
-fill-books : memory (before-it ++ (order ∷ filled ∷ [])) ≡ memory (before-it ++ (order ∷ [])) → ⊥
-fill-books e = let z : _≡_ {A = ℕ} 2 1 = sym (counted .3) ∙ ap (λ (b : Books). b .last) (sym (says (before-it ++ (order ∷ filled ∷ []))) ∙ ap view e ∙ says (before-it ++ (order ∷ []))) ∙ counted .2 in omega arith
-
--- THEOREM. None of them meets the record call's statement
-pub not-refusing : (G : Gate) → Meets G → RefusesAll G → ⊥
-unfolding computing judging
-not-refusing G g r =
-    let l = length-replicate {A = ℕ} words-of-400 0 in
-    let p = next-shown lent (enough lent l) (calls before-it) (ample before-it) (record { line = order; buffer = spare }) (omega arith) (said-by order) refl ∙ ap (λ n. shows (judge (run (fresh-books n) (records (calls before-it))) (said-by order) .answer)) (room lent l) in
-    let z : _≡_ {A = ℕ} (code "P") (code "R") = ap (λ (s : Shown). s .outcome) (sym p) ∙ sym (ap (λ (r : Recorded). shown (take (r .said .bytes) (r .buffer)) .outcome) (g (memory before-it) order spare)) ∙ r (memory before-it) order spare (omega arith) (kinds .0) in
-    omega arith
-
-pub not-idle : (G : Gate) → Meets G → BooksNothing G → ⊥
-not-idle G g n = order-books (ap (λ (r : Recorded). r .memory) (sym (g (memory before-it) order spare)) ∙ n (memory before-it) order spare (kinds .1))
-
-pub not-first-only : (G : Gate) → Meets G → BooksFirstOnly G → ⊥
-not-first-only G g f =
-    let p : G (memory before-it) order spare .memory ≡ memory (before-it ++ (order ∷ [])) = ap (λ (r : Recorded). r .memory) (g (memory before-it) order spare) in
-    let q = f (memory before-it) order spare filled spare (kinds .1) (kinds .2) (λ e. order-books (sym p ∙ e)) in
-    fill-books (sym (ap (λ m. G m filled spare .memory) p ∙ ap (λ (r : Recorded). r .memory) (g (memory (before-it ++ (order ∷ []))) filled spare)) ∙ q ∙ p)

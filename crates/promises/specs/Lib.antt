@@ -10,3 +10,4 @@ pub mod Fresh
 -- and what it says
 pub mod Promises
 pub mod Examples
+pub mod Silence
