@@ -4,6 +4,7 @@ use mathlib.Core.List.{List, [], map}
 use Prim.Native.Nat.{ℕ, _≤_}
 use lib.ListN.{length, drop, replicate}
 use Rattle.lines.specs.Splitting.{whole, rest, lent}
+use Rattle.calls.specs.Calling.{recorded}
 use Rattle.promises.specs.Day.{Call, left}
 use Rattle.gate.specs.declared.Judged.{Judged}
 use Rattle.gate.specs.declared.Judged.the-variants.{UpTo, Stopped}
@@ -20,7 +21,7 @@ calls-for text = map (λ l. call-for (lent l)) (whole [] text)
 
 -- a text is judged up to the end of its last line: what is left is what no LF has followed, and memory is what its calls leave
 abbrev pub LinesPassed : List ℕ → List ℕ → Judged → List ℕ → Type 0
-LinesPassed text m (UpTo at) n = (at ≤ length text) × (rest [] text ≡ drop at text) × (n ≡ left m (calls-for text))
+LinesPassed text m (UpTo at) n = (at ≤ length text) × (rest [] text ≡ drop at text) × (n ≡ left recorded m (calls-for text))
 LinesPassed text m Stopped n = Unit {0}
 
 -- no more is held than is lent of a line

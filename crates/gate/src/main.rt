@@ -11,6 +11,7 @@ ghost use mathlib.Core.List.{map};
 ghost use Prim.Native.Nat.{_≤_};
 ghost use lib.ListN.{length};
 ghost use Rattle.lines.specs.Splitting.{last};
+ghost use Rattle.calls.specs.Calling.{recorded};
 ghost use Rattle.promises.specs.Day.{after, left};
 ghost use Rattle.gate.specs.Turns.{call-for, LinesPassed, HeldFew};
 use calls::Answered;
@@ -107,7 +108,7 @@ fn say_refused() {
 
 // Judges a line, and puts its answer after those that wait.
 fn judge_line(mem: &mut [u64], line: &[u8], answers: &mut [u8], count: usize) -> Answers
-    ensures { λ _. ⌜ now (mem .exit) ≡ after (now (mem .entry)) (call-for (now (line .entry))) ⌝ }
+    ensures { λ _. ⌜ now (mem .exit) ≡ after recorded (now (mem .entry)) (call-for (now (line .entry))) ⌝ }
 {
     let mut answer = [0u8; ANSWER];
     let Answered::Line(to) = calls::record(mem, line, &mut answer) else {
@@ -173,7 +174,7 @@ fn judge_block(mem: &mut [u64], text: &mut [u8], held: usize, answers: &mut [u8]
 
 // Judges a last part that the input ends without LF. Where it is empty there is none.
 fn judge_last(mem: &mut [u64], part: &[u8], answers: &mut [u8]) -> Answers
-    ensures { λ _. ⌜ now (mem .exit) ≡ left (now (mem .entry)) (map call-for (last (now (part .entry)))) ⌝ }
+    ensures { λ _. ⌜ now (mem .exit) ≡ left recorded (now (mem .entry)) (map call-for (last (now (part .entry)))) ⌝ }
 {
     if part.len() == 0 {
         return Answers::Waiting(0);

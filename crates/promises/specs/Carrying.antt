@@ -23,7 +23,7 @@ use Rattle.books.specs.Judged.{judged}
 use Rattle.books.specs.Kept.{kept}
 use Rattle.rules.specs.Testing.{state-ok}
 use Rattle.rules.specs.Meaning.{exactly}
-use Rattle.calls.specs.Calling.{said-by, verdict-on, answer-to, Recorded}
+use Rattle.calls.specs.Calling.{said-by, verdict-on, answer-to, Recorded, recorded}
 use Rattle.calls.specs.Keeping.{judged-line, state-kept, books-after}
 use Rattle.promises.specs.Day.{Call, lines, Ample, after, left, Reply, reply, replies, Since, heard, struck, strike, shown, tells}
 use Rattle.promises.specs.Showing.{shows, answer-shown}
@@ -38,10 +38,10 @@ abbrev pub answered : Books → List ℕ → Reply
 answered b l = let a = judge b (said-by l) .answer in record { line = l; number = 0; answer = answer-bytes l (reading l) (code (a .outcome)) (a .number) (a .sent) }
 
 module _ (m : List ℕ) (c : Call) (h : 32 ≤ length (c .buffer)) (e : state-ok m ≡ true) where
-  pub after-is : after m c ≡ booked m (c .line)
+  pub after-is : after recorded m c ≡ booked m (c .line)
   after-is = ap (λ (r : Recorded). r .memory) (judged-line m (c .line) (c .buffer) h e)
 
-  pub reply-is : reply m c ≡ answered (view m) (c .line)
+  pub reply-is : reply recorded m c ≡ answered (view m) (c .line)
   reply-is = ap (λ (r : Recorded). record { line = c .line; number = r .said .number; answer = take (r .said .bytes) (r .buffer) }) (judged-line m (c .line) (c .buffer) h e)
       ∙ ap (λ l. record { line = c .line; number = 0; answer = l }) (take-append-seam (answer-to m (c .line)) (drop (length (answer-to m (c .line))) (c .buffer)))
 
@@ -60,18 +60,18 @@ abbrev pub all-answered : Books → List (List ℕ) → List Reply
 all-answered b [] = []
 all-answered b (l ∷ ls) = answered b l ∷ all-answered (step b (said-by l)) ls
 
-pub left-ok : (m : List ℕ) (cs : List Call) → state-ok m ≡ true → state-ok (left m cs) ≡ true
+pub left-ok : (m : List ℕ) (cs : List Call) → state-ok m ≡ true → state-ok (left recorded m cs) ≡ true
 left-ok m [] e = e
-left-ok m (c ∷ cs) e = left-ok (after m c) cs (state-kept m (c .line) (c .buffer) e)
+left-ok m (c ∷ cs) e = left-ok (after recorded m c) cs (state-kept m (c .line) (c .buffer) e)
 
-pub left-is : (m : List ℕ) (cs : List Call) → Ample cs → state-ok m ≡ true → left m cs ≡ all-booked m (lines cs)
+pub left-is : (m : List ℕ) (cs : List Call) → Ample cs → state-ok m ≡ true → left recorded m cs ≡ all-booked m (lines cs)
 left-is m [] a e = refl
-left-is m (c ∷ cs) a e = left-is (after m c) cs (a .1) (state-kept m (c .line) (c .buffer) e) ∙ ap (λ k. all-booked k (lines cs)) (after-is m c (a .0) e)
+left-is m (c ∷ cs) a e = left-is (after recorded m c) cs (a .1) (state-kept m (c .line) (c .buffer) e) ∙ ap (λ k. all-booked k (lines cs)) (after-is m c (a .0) e)
 
-pub replies-are : (m : List ℕ) (cs : List Call) → Ample cs → state-ok m ≡ true → replies m cs ≡ all-answered (view m) (lines cs)
+pub replies-are : (m : List ℕ) (cs : List Call) → Ample cs → state-ok m ≡ true → replies recorded m cs ≡ all-answered (view m) (lines cs)
 replies-are m [] a e = refl
 replies-are m (c ∷ cs) a e = ap₂ {C = List Reply} _∷_ (reply-is m c (a .0) e)
-    (replies-are (after m c) cs (a .1) (state-kept m (c .line) (c .buffer) e) ∙ ap (λ b. all-answered b (lines cs)) (books-after m (c .line) (c .buffer) (a .0) e))
+    (replies-are (after recorded m c) cs (a .1) (state-kept m (c .line) (c .buffer) e) ∙ ap (λ b. all-answered b (lines cs)) (books-after m (c .line) (c .buffer) (a .0) e))
 
 pub booked-all : (m : List ℕ) (ls : List (List ℕ)) → state-ok m ≡ true → view (all-booked m ls) ≡ run (view m) (map said-by ls)
 booked-all m [] e = refl

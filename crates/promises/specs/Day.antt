@@ -1,5 +1,5 @@
 -- Demand 3, what it is about: a day over the public calls, what is struck from it, and what its lines and answer lines show.
--- Lines, memory and answer lines are what a host hands the gate and gets back: bytes, words, bytes. Each step is the record call's own statement.
+-- Lines, memory and answer lines are what a host hands the gate and gets back: bytes, words, bytes. The promises are of `recorded`, the record call's own statement.
 use mathlib.Core.Path.{_≡_}
 use mathlib.Core.Bool.{Bool, false, not, _&&_, cond, decide}
 use mathlib.Core.Option.{Option, none, some}
@@ -16,7 +16,7 @@ use Rattle.rulebook.specs.Lines.{line-of}
 use Rattle.rulebook.specs.Kept.{Tally}
 use Rattle.rulebook.specs.Account.{Told, account}
 use Rattle.fields.specs.Digits.{number-of}
-use Rattle.calls.specs.Calling.{said-by, recorded, closed}
+use Rattle.calls.specs.Calling.{said-by, Recorded, closed}
 
 -- ── a day ──
 -- a call lends a line and an answer buffer
@@ -31,12 +31,16 @@ lines cs = map (λ (c : Call). c .line) cs
 abbrev pub Ample : List Call → Type 0
 Ample cs = All (λ (c : Call). 32 ≤ length (c .buffer)) cs
 
--- the memory after a call, and after a day's calls
-abbrev pub after : List ℕ → Call → List ℕ
-after m c = recorded m (c .line) (c .buffer) .memory
+-- a gate is what a call leaves of a memory, a line and a buffer; the record call's own statement, `recorded`, is one
+abbrev pub Gate : Type 0
+Gate = List ℕ → List ℕ → List ℕ → Recorded
 
-abbrev pub left : List ℕ → List Call → List ℕ
-left m cs = foldl after m cs
+-- the memory after a call, and after a day's calls
+abbrev pub after : Gate → List ℕ → Call → List ℕ
+after G m c = G m (c .line) (c .buffer) .memory
+
+abbrev pub left : Gate → List ℕ → List Call → List ℕ
+left G m cs = foldl (after G) m cs
 
 -- what a host has of a call: the line that it lent, the number that came back, and the answer line, which is the bytes that were written
 pub record Reply : Type 0 where
@@ -44,12 +48,12 @@ pub record Reply : Type 0 where
   pub number : ℕ
   pub answer : List ℕ
 
-abbrev pub reply : List ℕ → Call → Reply
-reply m c = let r = recorded m (c .line) (c .buffer) in record { line = c .line; number = r .said .number; answer = take (r .said .bytes) (r .buffer) }
+abbrev pub reply : Gate → List ℕ → Call → Reply
+reply G m c = let r = G m (c .line) (c .buffer) in record { line = c .line; number = r .said .number; answer = take (r .said .bytes) (r .buffer) }
 
-abbrev pub replies : List ℕ → List Call → List Reply
-replies m [] = []
-replies m (c ∷ cs) = reply m c ∷ replies (after m c) cs
+abbrev pub replies : Gate → List ℕ → List Call → List Reply
+replies G m [] = []
+replies G m (c ∷ cs) = reply G m c ∷ replies G (after G m c) cs
 
 -- and of a closing call
 pub record Sheet : Type 0 where

@@ -20,7 +20,7 @@ use Rattle.books.specs.Layout.{least-words, place-words, room-for, room-of}
 use Rattle.books.specs.View.{view}
 use Rattle.store.specs.Making.{made-words}
 use Rattle.rules.specs.Testing.{state-ok}
-use Rattle.calls.specs.Calling.{said-by, closing-of, group-at}
+use Rattle.calls.specs.Calling.{said-by, closing-of, group-at, recorded}
 use Rattle.promises.specs.Day.{Call, lines, Ample, left, Reply, replies, sheet, rest}
 use Rattle.promises.specs.Striking.{strike-same}
 use Rattle.promises.specs.Carrying.{all-answered}
@@ -91,16 +91,16 @@ module _ (m : List ℕ) (size : length m ≡ words-of-400) where
   pub room : room-of m ≡ 400
   room = ap room-for size ∙ room-of-400
 
-  pub says-400 : (cs : List Call) → Ample cs → view (left (made-words m) cs) ≡ run (fresh-books 400) (records cs)
+  pub says-400 : (cs : List Call) → Ample cs → view (left recorded (made-words m) cs) ≡ run (fresh-books 400) (records cs)
   says-400 cs a = day-says m enough cs a ∙ ap (λ n. run (fresh-books n) (records cs)) room
 
   module _ (cs : List Call) (a : Ample cs) (e : lines cs ≡ sample-lines) where
     -- THEOREM. Document 01's day gets document 01's answer lines
-    pub sample-day : map (λ (r : Reply). r .answer) (replies (made-words m) cs) ≡ sample-answers
+    pub sample-day : map (λ (r : Reply). r .answer) (replies recorded (made-words m) cs) ≡ sample-answers
     unfolding computing judging tails digits digits-in
     sample-day = ap (map (λ (r : Reply). r .answer)) (replies-is m enough cs a ∙ (λ i. all-answered ((fresh-says m enough ∙ ap fresh-books room) i) (e i)))
 
     -- THEOREM. and its closing line
-    pub sample-sheet : (b : List ℕ) → 96 ≤ length b → sheet (left (made-words m) cs) 0 b ≡ record { number = 0; line = printed "E ABCD 399600000 0 0 0 N" }
+    pub sample-sheet : (b : List ℕ) → 96 ≤ length b → sheet (left recorded (made-words m) cs) 0 b ≡ record { number = 0; line = printed "E ABCD 399600000 0 0 0 N" }
     unfolding computing judging tails digits digits-in
-    sample-sheet b h = sheet-at (left (made-words m) cs) 0 b _ h (day-ok m enough cs a) (ap (λ x. closing-at x 0) (says-400 cs a ∙ ap (λ ls. run (fresh-books 400) (map said-by ls)) e))
+    sample-sheet b h = sheet-at (left recorded (made-words m) cs) 0 b _ h (day-ok m enough cs a) (ap (λ x. closing-at x 0) (says-400 cs a ∙ ap (λ ls. run (fresh-books 400) (map said-by ls)) e))

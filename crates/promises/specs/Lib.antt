@@ -1,6 +1,7 @@
 -- Demand 3: what it is about
 pub mod Day
 -- why it holds
+pub mod Kinds
 pub mod Showing
 pub mod Striking
 pub mod Carrying

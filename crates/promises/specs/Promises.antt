@@ -19,8 +19,8 @@ use Rattle.rulebook.specs.Retries.{fresh-linked, linked-run, struck-notice}
 use Rattle.books.specs.Layout.{least-words, room-of}
 use Rattle.books.specs.View.{view}
 use Rattle.store.specs.Making.{made-words}
-use Rattle.calls.specs.Calling.{said-by, closed}
-use Rattle.promises.specs.Day.{Call, lines, Ample, after, left, Reply, reply, replies, sheet, is-kind, shown, unsent, tells, Closes, heard, rest, rest-replies, struck-after, FirstAttempt}
+use Rattle.calls.specs.Calling.{said-by, recorded, closed}
+use Rattle.promises.specs.Day.{Call, Gate, lines, Ample, after, left, Reply, reply, replies, sheet, is-kind, shown, unsent, tells, Closes, heard, rest, rest-replies, struck-after, FirstAttempt}
 use Rattle.promises.specs.Showing.{shows, open-shown}
 use Rattle.promises.specs.Striking.{request-said, notice-said, opening-said}
 use Rattle.promises.specs.Carrying.{all-booked, all-answered, after-is, struck-booked}
@@ -28,38 +28,38 @@ use Rattle.promises.specs.Attempts.{records, opened-same, struck-record,
 use Rattle.promises.specs.Closing.{closes, closed-again}
 use Rattle.promises.specs.Fresh.{all-answer, made-is, day-ok, memory-is, replies-is, same-memory, same-replies, rest-says, rest-tells, day-fair, next-shown}
 
--- What a call is replied goes by the calls before it: `reply (left m cs) c` is the reply to c in every day that begins with cs and goes on with c.
-pub one-by-one : (m : List ℕ) (cs ds : List Call) → replies m (cs ++ ds) ≡ replies m cs ++ replies (left m cs) ds
-one-by-one m [] ds = refl
-one-by-one m (c ∷ cs) ds = ap (λ rs. reply m c ∷ rs) (one-by-one (after m c) cs ds)
+-- What a call is replied goes by the calls before it: `reply G (left G m cs) c` is the reply to c in every day that begins with cs and goes on with c.
+pub one-by-one : (G : Gate) (m : List ℕ) (cs ds : List Call) → replies G m (cs ++ ds) ≡ replies G m cs ++ replies G (left G m cs) ds
+one-by-one G m [] ds = refl
+one-by-one G m (c ∷ cs) ds = ap (λ rs. reply G m c ∷ rs) (one-by-one G (after G m c) cs ds)
 
 module _ (m : List ℕ) (long : least-words ≤ length m) where
   -- No step of a day is answered 22, nor 21: each returns its answer line.
-  pub never-refused : (cs : List Call) → Ample cs → All (λ (r : Reply). r .number ≡ 0) (replies (made-words m) cs)
+  pub never-refused : (cs : List Call) → Ample cs → All (λ (r : Reply). r .number ≡ 0) (replies recorded (made-words m) cs)
   never-refused cs a = subst (All (λ (r : Reply). r .number ≡ 0)) (sym (replies-is m long cs a)) (all-answer (view (made-words m)) (lines cs))
 
   -- The first O passes, and no other does: the lines since the first O are those since opening.
   pub opening : (cs : List Call) (c : Call) → Ample (c ∷ cs) → is-kind "O" (c .line) ≡ true →
-      shown (reply (left (made-words m) cs) c .answer) ≡ cond (is-none (foldl heard none (lines cs))) (record { outcome = code "P"; number = 0; sent = 0 }) (record { outcome = code "R"; number = 2; sent = 0 })
+      shown (reply recorded (left recorded (made-words m) cs) c .answer) ≡ cond (is-none (foldl heard none (lines cs))) (record { outcome = code "P"; number = 0; sent = 0 }) (record { outcome = code "R"; number = 2; sent = 0 })
   opening cs c a k = let b = fresh-books (room-of m) in
       next-shown m long cs (a .1) c (a .0) open-day (opening-said (said-by (c .line)) k)
       ∙ open-shown (run b (records cs)) (is-none (foldl heard none (lines cs))) (linked-run no-marks b (fresh-linked (room-of m)) (records cs) .opened ∙ opened-same cs)
 
   -- The lines that are left, run alone with whatever buffers, get the same answer lines, byte for byte, and leave the same memory, word for word.
   pub rest-alone : (cs ds : List Call) → Ample cs → Ample ds → lines ds ≡ rest (lines cs) →
-      (replies (made-words m) ds ≡ rest-replies (replies (made-words m) cs)) × (left (made-words m) ds ≡ left (made-words m) cs)
+      (replies recorded (made-words m) ds ≡ rest-replies (replies recorded (made-words m) cs)) × (left recorded (made-words m) ds ≡ left recorded (made-words m) cs)
   rest-alone cs ds a b e = (
     replies-is m long ds b ∙ ap (all-answered (view (made-words m))) e ∙ sym (same-replies m long cs a),
     memory-is m long ds b ∙ ap (all-booked (made-words m)) e ∙ sym (same-memory m long cs a),
   )
 
   -- What is struck changes no word.
-  pub struck-unchanged : (cs : List Call) (c : Call) → Ample (c ∷ cs) → struck-after (lines cs) (c .line) ≡ true → after (left (made-words m) cs) c ≡ left (made-words m) cs
-  struck-unchanged cs c a s = after-is (left (made-words m) cs) c (a .0) (day-ok m long cs (a .1)) ∙ struck-booked (foldl heard none (lines cs)) (left (made-words m) cs) (day-fair m long cs (a .1)) (c .line) s
+  pub struck-unchanged : (cs : List Call) (c : Call) → Ample (c ∷ cs) → struck-after (lines cs) (c .line) ≡ true → after recorded (left recorded (made-words m) cs) c ≡ left recorded (made-words m) cs
+  struck-unchanged cs c a s = after-is (left recorded (made-words m) cs) c (a .0) (day-ok m long cs (a .1)) ∙ struck-booked (foldl heard none (lines cs)) (left recorded (made-words m) cs) (day-fair m long cs (a .1)) (c .line) s
 
   -- A struck request has a first attempt, and its answer line has that attempt's outcome and number, and 0 sent.
   pub retried : (cs : List Call) (c : Call) → Ample (c ∷ cs) → is-kind "NMCBR" (c .line) ≡ true → struck-after (lines cs) (c .line) ≡ true →
-      (f : FirstAttempt (c .line) cs) × (shown (reply (left (made-words m) cs) c .answer) ≡ unsent (shown (reply (left (made-words m) (f .before)) (f .call) .answer)))
+      (f : FirstAttempt (c .line) cs) × (shown (reply recorded (left recorded (made-words m) cs) c .answer) ≡ unsent (shown (reply recorded (left recorded (made-words m) (f .before)) (f .call) .answer)))
   retried cs c a k s =
       let (r, q) = request-said (said-by (c .line)) k in
       let (f, v) = first-attempt (room-of m) cs (c .line) r q s in
@@ -69,7 +69,7 @@ module _ (m : List ℕ) (long : least-words ≤ length m) where
 
   -- A struck notice is seen.
   pub seen : (cs : List Call) (c : Call) → Ample (c ∷ cs) → is-kind "QFDH" (c .line) ≡ true → struck-after (lines cs) (c .line) ≡ true →
-      shown (reply (left (made-words m) cs) c .answer) ≡ record { outcome = code "S"; number = 0; sent = 0 }
+      shown (reply recorded (left recorded (made-words m) cs) c .answer) ≡ record { outcome = code "S"; number = 0; sent = 0 }
   seen cs c a k s =
       let (n, w, q) = notice-said (said-by (c .line)) k in
       let struck-too = ap (day.struck (marked (records cs))) (sym q) ∙ sym (struck-record cs (c .line)) ∙ s in
@@ -78,17 +78,17 @@ module _ (m : List ℕ) (long : least-words ≤ length m) where
   -- Each desk that the struck list lists, in its order, has a closing line, and that line shows the desk's four sums: over what is left of the orders
   -- passed and over the fills booked in that list, worked out from its lines and answer lines. No other place has one.
   pub closing-sums : (cs : List Call) → Ample cs → (place : ℕ) (b : List ℕ) → 96 ≤ length b →
-      let h = tells (rest-replies (replies (made-words m) cs)) in Closes (getElem? (desks h) place) h (sheet (left (made-words m) cs) place b)
-  closing-sums cs a place b l = subst (λ h. Closes (getElem? (desks h) place) h (sheet (left (made-words m) cs) place b)) (sym (rest-tells m long cs a))
-      (closes (left (made-words m) cs) place b l (day-ok m long cs a) (room-of m) (map said-by (rest (lines cs))) (rest-says m long cs a))
+      let h = tells (rest-replies (replies recorded (made-words m) cs)) in Closes (getElem? (desks h) place) h (sheet (left recorded (made-words m) cs) place b)
+  closing-sums cs a place b l = subst (λ h. Closes (getElem? (desks h) place) h (sheet (left recorded (made-words m) cs) place b)) (sym (rest-tells m long cs a))
+      (closes (left recorded (made-words m) cs) place b l (day-ok m long cs a) (room-of m) (map said-by (rest (lines cs))) (rest-says m long cs a))
 
 -- Two days with one room that strike to one list, setup included, end with the same memory, and with the same closing lines.
 pub alike : (m n : List ℕ) → least-words ≤ length m → length m ≡ length n → (cs ds : List Call) → Ample cs → Ample ds → rest (lines cs) ≡ rest (lines ds) →
-    (left (made-words m) cs ≡ left (made-words n) ds) × ((place : ℕ) (b : List ℕ) → closed (left (made-words m) cs) place b ≡ closed (left (made-words n) ds) place b)
+    (left recorded (made-words m) cs ≡ left recorded (made-words n) ds) × ((place : ℕ) (b : List ℕ) → closed (left recorded (made-words m) cs) place b ≡ closed (left recorded (made-words n) ds) place b)
 alike m n long e cs ds a b q =
     let long-too : least-words ≤ length n = subst (λ k. least-words ≤ k) e long in
     let p : made-words m ≡ made-words n = made-is m long ∙ ap (λ k. replicate k 0) e ∙ sym (made-is n long-too) in
-    let s : left (made-words m) cs ≡ left (made-words n) ds = same-memory m long cs a ∙ (λ i. all-booked (p i) (q i)) ∙ sym (same-memory n long-too ds b) in
+    let s : left recorded (made-words m) cs ≡ left recorded (made-words n) ds = same-memory m long cs a ∙ (λ i. all-booked (p i) (q i)) ∙ sym (same-memory n long-too ds b) in
     (s, λ place b. ap (λ k. closed k place b) s)
 
 -- A closing line that is asked for twice is the same, and the buffer stays as the first call left it. The call is lent memory to read alone.

@@ -12,7 +12,7 @@ use Rattle.laws.specs.Tests.{both, neither}
 use Rattle.laws.specs.Tables.{All, Each}
 use Rattle.laws.specs.Checks.{first}
 use Rattle.rulebook.specs.Names.{Ident}
-use Rattle.rulebook.specs.Lines.{ceiling, Deal, new, change, cancel, block, unblock, News, quote, fill, reduction, cancel-refused, Record, broken, open-day, group, symbol, ask, tell, Field, number, serial, Line, line-of}
+use Rattle.rulebook.specs.Lines.{ceiling, News, quote, fill, reduction, cancel-refused, Record, broken, open-day, group, symbol, ask, tell, Field, number, serial, Line, line-of}
 use Rattle.rulebook.specs.Kept.{Group, Books, Tally}
 use Rattle.rulebook.specs.Outcomes.{Answer, answer-line, closing-line}
 use Rattle.rulebook.specs.Judging.{judge}
@@ -23,6 +23,7 @@ use Rattle.fields.specs.Series.{tails}
 use Rattle.fields.specs.Forms.{Says, IsLine}
 use Rattle.fields.specs.Trips.{clear, goods, goods-parts, says-clear}
 use Rattle.fields.specs.Values.{short-packed}
+use Rattle.promises.specs.Kinds.{deal-kinds, news-kinds}
 use Rattle.promises.specs.Day.{parts, field, number-in, Shown, shown, desk-shown, totals-shown}
 
 -- ── the fields of a line ──
@@ -69,21 +70,8 @@ kind-clear broken = refl
 kind-clear open-day = refl
 kind-clear (group m t) = refl
 kind-clear (symbol s) = refl
-kind-clear (ask r) = deal (r .deal)
-  where
-    deal : (d : Deal) → clear (line-of (ask (record { key = r .key; deal = d })) .kind) ≡ true
-    deal (new s x z p) = refl
-    deal (change n z p) = refl
-    deal (cancel n) = refl
-    deal block = refl
-    deal unblock = refl
-kind-clear (tell n w) = news w
-  where
-    news : (w : News) → clear (line-of (tell n w) .kind) ≡ true
-    news (quote s x y) = refl
-    news (fill k z p) = refl
-    news (reduction k z) = refl
-    news (cancel-refused k) = refl
+kind-clear (ask r) = deal-kinds r .3
+kind-clear (tell n w) = news-kinds n w .3
 
 answer-good : (x : Record) (a : Answer) → goods (answer-line x a .fields) ≡ true
 answer-good broken a = refl

@@ -2,7 +2,7 @@
 use mathlib.Core.Path.{_≡_, refl, sym, ap, _∙_, subst}
 use mathlib.Core.Bool.{Bool, true, false, not, _&&_, _||_, cond}
 use mathlib.Core.Option.{none}
-use mathlib.Core.List.{List, [], _∷_, _++_, map, foldl}
+use mathlib.Core.List.{List, [], _∷_, _++_, map}
 use Prim.Native.Nat.{ℕ, _≤_}
 use Prim.Native.Char.{code}
 use native.Mathlib.Omega.{arith}
@@ -20,7 +20,7 @@ use Rattle.books.specs.Layout.{least-words}
 use Rattle.books.specs.View.{view}
 use Rattle.store.specs.Making.{made-words}
 use Rattle.calls.specs.Calling.{said-by, Recorded, record-left, recorded}
-use Rattle.promises.specs.Day.{Call, lines, Ample, after, left, Reply, reply, replies, Sheet, sheet, is-kind, Shown, shown, totals-shown, tells, Closes, rest, rest-replies}
+use Rattle.promises.specs.Day.{Call, Gate, lines, Ample, after, left, reply, replies, Sheet, sheet, is-kind, Shown, shown, totals-shown, tells, Closes, rest, rest-replies}
 use Rattle.promises.specs.Showing.{shows}
 use Rattle.promises.specs.Striking.{strike-same}
 use Rattle.promises.specs.Attempts.{records}
@@ -29,24 +29,21 @@ use Rattle.promises.specs.Promises.{closing-sums}
 use Rattle.promises.specs.Examples.{words-of-400, enough, room, says-400}
 
 -- ── useless gates ──
--- anything that leaves something of a memory, a line and a buffer; it meets the record call's statement if it leaves what that says
-abbrev pub Gate : Type 0
-Gate = List ℕ → List ℕ → List ℕ → Recorded
-
+-- a gate meets the record call's statement if it leaves what that says
 abbrev pub Meets : Gate → Type 0
 Meets G = (m l b : List ℕ) → G m l b ≡ recorded m l b
 
 -- "one that refuses all": every request, whatever was before
 abbrev pub RefusesAll : Gate → Type 0
-RefusesAll G = (m l b : List ℕ) → 32 ≤ length b → is-kind "NMCBR" l ≡ true → let r = G m l b in shown (take (r .said .bytes) (r .buffer)) .outcome ≡ code "R"
+RefusesAll G = (m : List ℕ) (c : Call) → 32 ≤ length (c .buffer) → is-kind "NMCBR" (c .line) ≡ true → shown (reply G m c .answer) .outcome ≡ code "R"
 
 -- "one that answers and books nothing": no request and no notice changes its memory
 abbrev pub BooksNothing : Gate → Type 0
-BooksNothing G = (m l b : List ℕ) → is-kind "NMCBRQFDH" l ≡ true → G m l b .memory ≡ m
+BooksNothing G = (m : List ℕ) (c : Call) → is-kind "NMCBRQFDH" (c .line) ≡ true → after G m c ≡ m
 
 -- "one that books the first record and then only talks": once a request or a notice has changed its memory, none does
 abbrev pub BooksFirstOnly : Gate → Type 0
-BooksFirstOnly G = (m l b k c : List ℕ) → is-kind "NMCBRQFDH" l ≡ true → is-kind "NMCBRQFDH" k ≡ true → (G m l b .memory ≡ m → ⊥) → G (G m l b .memory) k c .memory ≡ G m l b .memory
+BooksFirstOnly G = (m : List ℕ) (c d : Call) → is-kind "NMCBRQFDH" (c .line) ≡ true → is-kind "NMCBRQFDH" (d .line) ≡ true → (after G m c ≡ m → ⊥) → after G (after G m c) d ≡ after G m c
 
 -- a day with one order and a fill of it
 abbrev spare : List ℕ
@@ -61,8 +58,11 @@ filled = printed "F 2 ABCD T1 40 9990000"
 abbrev before-it : List (List ℕ)
 before-it = take 4 sample-lines
 
+abbrev call : List ℕ → Call
+call l = record { line = l; buffer = spare }
+
 abbrev calls : List (List ℕ) → List Call
-calls ls = map (λ l. record { line = l; buffer = spare }) ls
+calls ls = map call ls
 
 ample : (ls : List (List ℕ)) → Ample (calls ls)
 ample [] = tt
@@ -72,7 +72,7 @@ abbrev lent : List ℕ
 lent = replicate words-of-400 0
 
 abbrev memory : List (List ℕ) → List ℕ
-memory ls = left (made-words lent) (calls ls)
+memory ls = left recorded (made-words lent) (calls ls)
 
 size : length lent ≡ words-of-400
 size = length-replicate {A = ℕ} words-of-400 0
@@ -100,40 +100,34 @@ fill-books e = let z : _≡_ {A = ℕ} 2 1 = sym (counted .3) ∙ ap (λ (b : Bo
 pub not-refusing : (G : Gate) → Meets G → RefusesAll G → ⊥
 unfolding computing judging
 not-refusing G g r =
-    let p = next-shown lent (enough lent size) (calls before-it) (ample before-it) (record { line = order; buffer = spare }) (omega arith) (said-by order) refl ∙ ap (λ n. shows (judge (run (fresh-books n) (records (calls before-it))) (said-by order) .answer)) (room lent size) in
-    let z : _≡_ {A = ℕ} (code "P") (code "R") = ap (λ (s : Shown). s .outcome) (sym p) ∙ sym (ap (λ (r : Recorded). shown (take (r .said .bytes) (r .buffer)) .outcome) (g (memory before-it) order spare)) ∙ r (memory before-it) order spare (omega arith) (kinds .0) in
+    let m = memory before-it in
+    let p = next-shown lent (enough lent size) (calls before-it) (ample before-it) (call order) (omega arith) (said-by order) refl ∙ ap (λ n. shows (judge (run (fresh-books n) (records (calls before-it))) (said-by order) .answer)) (room lent size) in
+    let q : shown (reply G m (call order) .answer) ≡ shown (reply recorded m (call order) .answer) = ap (λ (r : Recorded). shown (take (r .said .bytes) (r .buffer))) (g m order spare) in
+    let z : _≡_ {A = ℕ} (code "P") (code "R") = ap (λ (s : Shown). s .outcome) (sym (q ∙ p)) ∙ r m (call order) (omega arith) (kinds .0) in
     omega arith
 
+-- the memory that it leaves is ours
+same-after : (G : Gate) → Meets G → (m : List ℕ) (c : Call) → after G m c ≡ after recorded m c
+same-after G g m c = ap (λ (r : Recorded). r .memory) (g m (c .line) (c .buffer))
+
 pub not-idle : (G : Gate) → Meets G → BooksNothing G → ⊥
-not-idle G g n = order-books (ap (λ (r : Recorded). r .memory) (sym (g (memory before-it) order spare)) ∙ n (memory before-it) order spare (kinds .1))
+not-idle G g n = order-books (sym (same-after G g (memory before-it) (call order)) ∙ n (memory before-it) (call order) (kinds .1))
 
 pub not-first-only : (G : Gate) → Meets G → BooksFirstOnly G → ⊥
 not-first-only G g f =
-    let p : G (memory before-it) order spare .memory ≡ memory (before-it ++ (order ∷ [])) = ap (λ (r : Recorded). r .memory) (g (memory before-it) order spare) in
-    let q = f (memory before-it) order spare filled spare (kinds .1) (kinds .2) (λ e. order-books (sym p ∙ e)) in
-    fill-books (sym (ap (λ m. G m filled spare .memory) p ∙ ap (λ (r : Recorded). r .memory) (g (memory (before-it ++ (order ∷ []))) filled spare)) ∙ q ∙ p)
+    let p = same-after G g (memory before-it) (call order) in
+    let q = f (memory before-it) (call order) (call filled) (kinds .1) (kinds .2) (λ e. order-books (sym p ∙ e)) in
+    fill-books (sym (ap (λ m. after G m (call filled)) p ∙ same-after G g (memory (before-it ++ (order ∷ []))) (call filled)) ∙ q ∙ p)
 
 -- ── "breaks demand 2's totals and demand 3's sums" ──
--- a day over any gate, as `left` and `replies` are over the record call
-abbrev pub left-by : Gate → List ℕ → List Call → List ℕ
-left-by G m cs = foldl (λ m (c : Call). G m (c .line) (c .buffer) .memory) m cs
-
-abbrev pub replies-by : Gate → List ℕ → List Call → List Reply
-replies-by G m [] = []
-replies-by G m (c ∷ cs) = let r = G m (c .line) (c .buffer) in record { line = c .line; number = r .said .number; answer = take (r .said .bytes) (r .buffer) } ∷ replies-by G (r .memory) cs
-
 -- what `closing-sums` says, of any gate
 abbrev pub Sums : Gate → Type 0
 Sums G = (m : List ℕ) → least-words ≤ length m → (cs : List Call) → Ample cs → (place : ℕ) (b : List ℕ) → 96 ≤ length b →
-    let h = tells (rest-replies (replies-by G (made-words m) cs)) in Closes (getElem? (desks h) place) h (sheet (left-by G (made-words m) cs) place b)
-
-replies-ours : (m : List ℕ) (cs : List Call) → replies-by recorded m cs ≡ replies m cs
-replies-ours m [] = refl
-replies-ours m (c ∷ cs) = ap (λ rs. reply m c ∷ rs) (replies-ours (after m c) cs)
+    let h = tells (rest-replies (replies G (made-words m) cs)) in Closes (getElem? (desks h) place) h (sheet (left G (made-words m) cs) place b)
 
 -- THEOREM. It is promised of the record call
 pub ours-sums : Sums recorded
-ours-sums m long cs a place b l = subst (λ rs. let h = tells (rest-replies rs) in Closes (getElem? (desks h) place) h (sheet (left (made-words m) cs) place b)) (sym (replies-ours (made-words m) cs)) (closing-sums m long cs a place b l)
+ours-sums = closing-sums
 
 -- a gate that answers as the record call does, and where a test says so leaves the memory as it was
 abbrev talks : (List ℕ → List ℕ → Bool) → Gate
@@ -178,7 +172,7 @@ open-buys s = (λ c. ap (λ (t : Tally). t .ob) (c .2), λ c. ap (λ (t : Tally)
 abbrev wide : List ℕ
 wide = replicate 96 0
 
-shows-told : (ls : List (List ℕ)) → lines (calls ls) ≡ ls → tells (rest-replies (replies (made-words lent) (calls ls))) ≡ told ls
+shows-told : (ls : List (List ℕ)) → lines (calls ls) ≡ ls → tells (rest-replies (replies recorded (made-words lent) (calls ls))) ≡ told ls
 shows-told ls e = rest-tells lent (enough lent size) (calls ls) (ample ls) ∙ (λ i. sums.tells (fresh-books (room lent size i)) (map said-by (rest (e i)))) ∙ ap (λ ks. sums.tells (fresh-books 400) (map said-by ks)) (strike-same (λ l. l) none no-marks refl ls)
 
 -- THEOREM. A gate that answers and books nothing breaks the sums
@@ -202,10 +196,10 @@ unfolding computing
 first-only-breaks h =
     let s = sheet (memory before-it) 0 wide in
     let ls = before-it ++ (order ∷ []) in
-    let quoted : first-only (memory set-up) quote spare .memory ≡ memory before-it = ap (λ t. cond t (memory set-up) (memory before-it)) (booked-so-far .0) in
-    let kept : left-by first-only (made-words lent) (calls ls) ≡ memory before-it = ap (λ m. first-only m order spare .memory) quoted ∙ ap (λ t. cond t (memory before-it) (memory ls)) (booked-so-far .1) in
-    let same : replies-by first-only (made-words lent) (calls ls) ≡ replies (made-words lent) (calls ls) = ap (λ m. replies (made-words lent) (calls before-it) ++ (reply m (record { line = order; buffer = spare }) ∷ [])) quoted in
+    let quoted : after first-only (memory set-up) (call quote) ≡ memory before-it = ap (λ t. cond t (memory set-up) (memory before-it)) (booked-so-far .0) in
+    let kept : left first-only (made-words lent) (calls ls) ≡ memory before-it = ap (λ m. after first-only m (call order)) quoted ∙ ap (λ t. cond t (memory before-it) (memory ls)) (booked-so-far .1) in
+    let same : replies first-only (made-words lent) (calls ls) ≡ replies recorded (made-words lent) (calls ls) = ap (λ m. replies recorded (made-words lent) (calls before-it) ++ (reply recorded m (call order) ∷ [])) quoted in
     let a = open-buys s .2 (subst (λ h. First h s) (shows-told before-it refl) (closing-sums lent (enough lent size) (calls before-it) (ample before-it) 0 wide (omega arith))) in
-    let c = subst (First (tells (rest-replies (replies-by first-only (made-words lent) (calls ls))))) (ap (λ m. sheet m 0 wide) kept) (h lent (enough lent size) (calls ls) (ample ls) 0 wide (omega arith)) in
+    let c = subst (First (tells (rest-replies (replies first-only (made-words lent) (calls ls))))) (ap (λ m. sheet m 0 wide) kept) (h lent (enough lent size) (calls ls) (ample ls) 0 wide (omega arith)) in
     let b = open-buys s .3 (subst (λ h. First h s) (ap (λ rs. tells (rest-replies rs)) same ∙ shows-told ls refl) c) in
     let z : _≡_ {A = ℕ} 0 1_000_000_000 = sym a ∙ b in omega arith

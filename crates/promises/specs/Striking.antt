@@ -6,11 +6,9 @@ use mathlib.Core.List.{List, [], _∷_, List-discrete}
 use native.Mathlib.Decide.{ℕ-discrete}
 use Prim.Native.Nat.{ℕ}
 use Prim.Native.String.{String}
-use lib.Dec.{eqb}
 use Rattle.laws.specs.Tests.{on, is-none, one-more, Exact, decide-exact}
 use Rattle.laws.specs.Tables.{find}
-use Rattle.rulebook.specs.Names.{bytes}
-use Rattle.rulebook.specs.Lines.{Deal, new, change, cancel, block, unblock, Request, News, quote, fill, reduction, cancel-refused, Record, broken, open-day, group, symbol, ask, tell, line-of, same-request}
+use Rattle.rulebook.specs.Lines.{Request, News, Record, broken, open-day, group, symbol, ask, tell, line-of, same-request}
 use Rattle.rulebook.specs.Kept.{Books, fresh-books}
 use Rattle.rulebook.specs.Judging.{nothing, judge}
 use Rattle.rulebook.specs.Day as day
@@ -21,12 +19,10 @@ use Rattle.codec.specs.Readings.{record-of}
 use Rattle.codec.specs.Lines.{read-line-of, one-line}
 use Rattle.calls.specs.Calling.{said-by}
 use Rattle.promises.specs.Day.{is-kind, Since, heard, same-bytes, among, last-taken, struck, strike}
+use Rattle.promises.specs.Kinds.{has-kind, deal-kinds, news-kinds}
 use Rattle.promises.specs.Showing.{notice-number}
 
 -- ── a record, to striking ──
-abbrev pub has-kind : String → Record → Bool
-has-kind s x = not (is-none (find (eqb (line-of x .kind)) (bytes s)))
-
 -- neither an O nor a request nor a notice: it marks nothing and is never struck
 abbrev Plain : Record → Type 0
 Plain x = (has-kind "O" x ≡ false) × (has-kind "NMCBR" x ≡ false) × (has-kind "QFDH" x ≡ false) × ((k : Marks) → noted k x ≡ k) × ((k : Marks) → day.struck k x ≡ false)
@@ -39,23 +35,6 @@ by-sort P o r n p (tell k w) = n k w
 by-sort P o r n p broken = p broken (refl, refl, refl, λ k. refl, λ k. refl)
 by-sort P o r n p (group m t) = p (group m t) (refl, refl, refl, λ k. refl, λ k. refl)
 by-sort P o r n p (symbol s) = p (symbol s) (refl, refl, refl, λ k. refl, λ k. refl)
-
--- a request is of no other kind, and neither is a notice
-deal-kinds : (r : Request) → (has-kind "O" (ask r) ≡ false) × (has-kind "NMCBR" (ask r) ≡ true) × (has-kind "QFDH" (ask r) ≡ false)
-deal-kinds r = deal (r .deal)
-  where
-    deal : (d : Deal) → let x = ask (record { key = r .key; deal = d }) in (has-kind "O" x ≡ false) × (has-kind "NMCBR" x ≡ true) × (has-kind "QFDH" x ≡ false)
-    deal (new s x z p) = (refl, refl, refl)
-    deal (change n z p) = (refl, refl, refl)
-    deal (cancel n) = (refl, refl, refl)
-    deal block = (refl, refl, refl)
-    deal unblock = (refl, refl, refl)
-
-news-kinds : (n : ℕ) (w : News) → (has-kind "O" (tell n w) ≡ false) × (has-kind "NMCBR" (tell n w) ≡ false) × (has-kind "QFDH" (tell n w) ≡ true)
-news-kinds n (quote s x y) = (refl, refl, refl)
-news-kinds n (fill k z p) = (refl, refl, refl)
-news-kinds n (reduction k z) = (refl, refl, refl)
-news-kinds n (cancel-refused k) = (refl, refl, refl)
 
 -- a test that is false of one thing and true of the other tells them apart
 not-both : {A : Type 0} {b : Bool} → b ≡ false → b ≡ true → A

@@ -6,6 +6,7 @@ use native.Mathlib.Omega.{arith}
 use lib.ListN.{length, drop}
 use Rattle.lines.specs.Splitting.{rest, line-at}
 use Rattle.lines.specs.Places.{step-on, step-none}
+use Rattle.calls.specs.Calling.{recorded}
 use Rattle.promises.specs.Day.{after, left}
 use Rattle.gate.specs.Turns.{call-for, calls-for}
 use Rattle.gate.specs.Passing.{line-passed, none-passed}
@@ -14,7 +15,7 @@ use Rattle.gate.proofs.judge_lines.Statement.{statement}
 use Rattle.gate.proofs.judge_lines.Tie as tie
 
 abbrev Inv-loop : tie.InvT-loop
-Inv-loop mem₀ text answers₀ count₀ at₀ mem answers count at = (length mem ≡ length mem₀) × (length answers ≡ length answers₀) × (at ≤ length text) × (rest [] text ≡ rest [] (drop at text)) × (left mem₀ (calls-for text) ≡ left mem (calls-for (drop at text)))
+Inv-loop mem₀ text answers₀ count₀ at₀ mem answers count at = (length mem ≡ length mem₀) × (length answers ≡ length answers₀) × (at ≤ length text) × (rest [] text ≡ rest [] (drop at text)) × (left recorded mem₀ (calls-for text) ≡ left recorded mem (calls-for (drop at text)))
 
 abbrev μ-loop : tie.MeasureT-loop
 μ-loop mem₀ text answers₀ count₀ at₀ mem answers count at = length text - at
@@ -64,7 +65,7 @@ loop-again c =
       search needs,
       search needs,
       f .before .loop .inv .3 ∙ step-on t at h .after ∙ ap (λ k. rest [] (drop (at + k) t)) (sym n),
-      f .before .loop .inv .4 ∙ line-passed t at (f .before .loop .mem) _ _ _ (f .line-at .ensures .0) refl h (d .judge-line .ensures ∙ ap (λ l. after (f .before .loop .mem) (call-for l)) (d .before .before .lent .ensures)),
+      f .before .loop .inv .4 ∙ line-passed t at (f .before .loop .mem) _ _ _ (f .line-at .ensures .0) refl h (d .judge-line .ensures ∙ ap (λ l. after recorded (f .before .loop .mem) (call-for l)) (d .before .before .lent .ensures)),
     )
 
 is-written-requires : tie.Need-is-written-requires Inv-loop μ-loop
