@@ -1,0 +1,27 @@
+-- How a host that is written in C or Rust is told what document 01's calls say: one number with its sign.
+use mathlib.Core.Bool.{not, cond}
+use mathlib.Core.List.{List, [], _∷_}
+use Prim.Native.Nat.{ℕ, suc, _+_, _*_}
+use lib.Dec.{ltb, eqb}
+use lib.IntN.{ℤ, pos, negsuc, negℤ}
+use Rattle.laws.specs.Checks.{_⇒_, first}
+use Rattle.books.specs.Layout.{least-words, place-words}
+use Rattle.rules.specs.Testing.{state-ok}
+use Rattle.calls.specs.Calling.{Said, refuses}
+
+-- the bytes that were written, or minus the number of the refusal
+abbrev pub told : Said → ℤ
+told x = cond (eqb (x .number) 0) (pos (x .bytes)) (negℤ (pos (x .number)))
+
+-- and what a host hears in it
+abbrev pub heard : ℤ → Said
+heard (pos n) = record { number = 0; bytes = n }
+heard (negsuc n) = refuses (suc n)
+
+-- "lent state breaks a state rule, or is too short": 22, else nothing is refused
+abbrev pub state-said : List ℕ → Said
+state-said m = refuses (first ((not (state-ok m) ⇒ 22) ∷ []))
+
+-- "The room, at most 65,535 places, is fixed when the memory is lent": the words of so many places, and 0 where no memory has so many
+unfoldable pub words-for : ℕ → ℕ
+words-for p = cond (ltb 65_535 p) 0 (least-words + p * place-words)

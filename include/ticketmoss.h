@@ -1,0 +1,102 @@
+/* Ticketmoss for hosts in C and C++: the proved calls of target/staticlib/libhost.a (`rt staticlib host`), for Linux on x86-64.
+ *
+ * The gate keeps nothing of its own. A host lends it words, the state, a line and a buffer, and lends the same words again for the next record.
+ * No call allocates, blocks, reads a clock or keeps a pointer. Every call ends with an answer whatever the words and bytes hold, and what is
+ * refused changes nothing. docs/STATE.md has the map of the words, docs/PROMISES.md what is promised and proved.
+ *
+ * A call's answer is one number. 0 or more: it was done, and so many bytes were written at the buffer's start; bytes past them stay as found.
+ * Below 0: minus one of document 01's numbers, and neither words nor buffer were changed.
+ *
+ * What a caller owes, since nothing checks it here: a pointer is never null, not even with a length of 0, is aligned for its type, and points to
+ * so many words or bytes that stay the caller's own during the call; the words, the line and the buffer do not overlap. Two calls at the same
+ * time over the same words are a fault of the host's; over different words they are fine. Stack: one call needs at most 2 MiB. */
+#ifndef TICKETMOSS_H
+#define TICKETMOSS_H
+
+#include <stddef.h>
+#include <stdint.h>
+
+#ifdef __cplusplus
+extern "C" {
+#endif
+
+/* ---- lengths ---- */
+
+/* the least bytes of a buffer for an answer line, and for a closing line; no line has more */
+#define TICKETMOSS_ANSWER_BYTES 32
+#define TICKETMOSS_CLOSING_BYTES 96
+/* the most bytes of a line before its LF, and the bytes of a line that a host has to hold */
+#define TICKETMOSS_LINE_MOST 160
+#define TICKETMOSS_LINE_BYTES 161
+/* the words of a state with no place, the words of a place, and the most places; TICKETMOSS_WORDS(n) is ticketmoss_words(n) as a constant */
+#define TICKETMOSS_LEAST_WORDS 1669
+#define TICKETMOSS_PLACE_WORDS 17
+#define TICKETMOSS_MOST_PLACES 65535
+#define TICKETMOSS_WORDS(places) (TICKETMOSS_LEAST_WORDS + TICKETMOSS_PLACE_WORDS * (size_t)(places))
+/* the most groups and symbols */
+#define TICKETMOSS_MOST_GROUPS 64
+#define TICKETMOSS_MOST_SYMBOLS 256
+
+/* ---- document 01's numbers: the fourth field of an answer line, or minus a call's answer ---- */
+
+#define TICKETMOSS_DONE 0              /* passed, booked or seen */
+#define TICKETMOSS_BAD_LINE 1          /* line breaks a form */
+#define TICKETMOSS_WRONG_TIME 2        /* G, S, O after O; any other before O */
+#define TICKETMOSS_LISTED_TWICE 3      /* G or S already listed */
+#define TICKETMOSS_LIST_FULL 4         /* G with 64 groups listed, S with 256 symbols listed */
+#define TICKETMOSS_NO_MPID 5           /* MPID not listed; of a closing line: no group has the place */
+#define TICKETMOSS_OTHER_REQUEST 6     /* identifier known, request differs */
+#define TICKETMOSS_TABLE_FULL 7        /* no place in the table */
+#define TICKETMOSS_NO_SYMBOL 8         /* symbol not listed */
+#define TICKETMOSS_NO_ORDER 9          /* target is no open order of this MPID */
+#define TICKETMOSS_BLOCKED 10          /* group blocked */
+#define TICKETMOSS_NO_SHORT_SALES 11   /* H or E where the group says N */
+#define TICKETMOSS_TOO_LARGE 12        /* size above the group's maximum */
+#define TICKETMOSS_BAD_PRICE 13        /* price out of range or off tick */
+#define TICKETMOSS_PRICE_PROTECTION 14 /* too far from the quote */
+#define TICKETMOSS_LIMIT 15            /* a metric would pass its limit */
+#define TICKETMOSS_SIZE_DONE 16        /* changed size not above done */
+#define TICKETMOSS_CANCEL_ASKED 17     /* cancel already asked */
+#define TICKETMOSS_NUMBER_AHEAD 18     /* notice number above last + 1 */
+#define TICKETMOSS_ABOVE_REMAINING 19  /* F or D above remaining */
+#define TICKETMOSS_ABOVE_CEILING 20    /* F would bring gross of both above the ceiling */
+#define TICKETMOSS_SHORT_BUFFER 21     /* buffer under 32 bytes (under 96 for a closing line) */
+#define TICKETMOSS_BAD_STATE 22        /* lent state breaks a state rule, or is too short for groups and symbols */
+#define TICKETMOSS_SHORT_MEMORY 23     /* making a fresh state: memory too short for groups and symbols */
+
+/* ---- document 01's outcomes: the third field of an answer line ---- */
+
+#define TICKETMOSS_PASSED 'P'    /* setup, O, requests */
+#define TICKETMOSS_BOOKED 'K'    /* notices */
+#define TICKETMOSS_SEEN 'S'      /* a notice whose number was already taken */
+#define TICKETMOSS_REFUSED 'R'
+#define TICKETMOSS_SET_ASIDE 'A' /* a notice whose number is taken, with nothing else changed */
+
+/* ---- the calls ---- */
+
+/* How many words a room of so many places needs; 0 where no memory has so many (above 65,535). */
+size_t ticketmoss_words(size_t places);
+
+/* How many places so many words have room for; 0 also where they are fewer than 1,669, and no state. */
+size_t ticketmoss_places(size_t words);
+
+/* Makes a fresh state of the lent words: all are set to 0, nothing is listed. 0, or -TICKETMOSS_SHORT_MEMORY. */
+int64_t ticketmoss_fresh(uint64_t *words, size_t count);
+
+/* Whether the lent words meet every state rule, so that a record can be judged on them. 0, or -TICKETMOSS_BAD_STATE. */
+int64_t ticketmoss_state(const uint64_t *words, size_t count);
+
+/* Judges one record, lent as its line with its LF: what it changes is stored in the words, and its answer line, with its LF, stands at the
+ * buffer's start. The bytes of the answer line, or -TICKETMOSS_SHORT_BUFFER or -TICKETMOSS_BAD_STATE. A line that breaks a form is answered like
+ * any other, by a line with number 1. */
+int64_t ticketmoss_record(uint64_t *words, size_t count, const uint8_t *line, size_t length, uint8_t *buffer, size_t size);
+
+/* The closing line of the group at a place in listing order, from 0; it changes no word. Its bytes, or -TICKETMOSS_SHORT_BUFFER,
+ * -TICKETMOSS_BAD_STATE, or -TICKETMOSS_NO_MPID where no group has the place. */
+int64_t ticketmoss_closing(const uint64_t *words, size_t count, size_t place, uint8_t *buffer, size_t size);
+
+#ifdef __cplusplus
+}
+#endif
+
+#endif
