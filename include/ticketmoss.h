@@ -9,7 +9,7 @@
  *
  * What a caller owes, since nothing checks it here: a pointer is never null, not even with a length of 0, is aligned for its type, and points to
  * so many words or bytes that stay the caller's own during the call; the words, the line and the buffer do not overlap. Two calls at the same
- * time over the same words are a fault of the host's; over different words they are fine. Stack: one call needs at most 2 MiB. */
+ * time over the same words are a fault of the host's; over different words they are fine. A call takes less than 512 KiB of stack. */
 #ifndef TICKETMOSS_H
 #define TICKETMOSS_H
 

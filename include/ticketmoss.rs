@@ -1,0 +1,90 @@
+//! Ticketmoss for hosts in Rust: the calls of `ticketmoss.h` over slices, which owe what the header asks of a caller by their types.
+//! Bring it in with `#[path = "…/include/ticketmoss.rs"] mod ticketmoss;` and link `target/staticlib/libhost.a`.
+#![allow(dead_code)]
+
+/// The least bytes of a buffer for an answer line, and for a closing line; no line has more.
+pub const ANSWER_BYTES: usize = 32;
+pub const CLOSING_BYTES: usize = 96;
+
+/// One of document 01's numbers with which a call refuses: 5, 21, 22 or 23 (`ticketmoss.h` names them). Nothing was changed.
+#[derive(Clone, Copy, Debug, PartialEq, Eq)]
+pub struct Refused(pub u8);
+
+mod calls {
+    extern "C" {
+        pub fn ticketmoss_words(places: usize) -> usize;
+        pub fn ticketmoss_places(words: usize) -> usize;
+        pub fn ticketmoss_fresh(words: *mut u64, count: usize) -> i64;
+        pub fn ticketmoss_state(words: *const u64, count: usize) -> i64;
+        pub fn ticketmoss_record(
+            words: *mut u64,
+            count: usize,
+            line: *const u8,
+            length: usize,
+            buffer: *mut u8,
+            size: usize,
+        ) -> i64;
+        pub fn ticketmoss_closing(
+            words: *const u64,
+            count: usize,
+            place: usize,
+            buffer: *mut u8,
+            size: usize,
+        ) -> i64;
+    }
+}
+
+fn told(answer: i64) -> Result<usize, Refused> {
+    if answer < 0 {
+        Err(Refused(-answer as u8))
+    } else {
+        Ok(answer as usize)
+    }
+}
+
+/// How many words a room of so many places needs; 0 where no memory has so many (above 65,535).
+pub fn words(places: usize) -> usize {
+    unsafe { calls::ticketmoss_words(places) }
+}
+
+/// How many places so many words have room for.
+pub fn places(words: usize) -> usize {
+    unsafe { calls::ticketmoss_places(words) }
+}
+
+/// Makes a fresh state of the lent words, or refuses with 23.
+pub fn fresh(words: &mut [u64]) -> Result<(), Refused> {
+    told(unsafe { calls::ticketmoss_fresh(words.as_mut_ptr(), words.len()) }).map(|_| ())
+}
+
+/// Whether the lent words meet every state rule, or 22.
+pub fn state(words: &[u64]) -> Result<(), Refused> {
+    told(unsafe { calls::ticketmoss_state(words.as_ptr(), words.len()) }).map(|_| ())
+}
+
+/// Judges one record, lent as its line with its LF: how many bytes of its answer line stand at the buffer's start, or 21 or 22.
+pub fn record(words: &mut [u64], line: &[u8], buffer: &mut [u8]) -> Result<usize, Refused> {
+    told(unsafe {
+        calls::ticketmoss_record(
+            words.as_mut_ptr(),
+            words.len(),
+            line.as_ptr(),
+            line.len(),
+            buffer.as_mut_ptr(),
+            buffer.len(),
+        )
+    })
+}
+
+/// The closing line of the group at a place in listing order, from 0: its bytes at the buffer's start, or 21, 22, or 5 where there is none.
+pub fn closing(words: &[u64], place: usize, buffer: &mut [u8]) -> Result<usize, Refused> {
+    told(unsafe {
+        calls::ticketmoss_closing(
+            words.as_ptr(),
+            words.len(),
+            place,
+            buffer.as_mut_ptr(),
+            buffer.len(),
+        )
+    })
+}

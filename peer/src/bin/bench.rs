@@ -1,0 +1,272 @@
+//! The gate and the peer timed on the same generated days, in one run (docs/BENCHMARK.md).
+//!
+//! Both are called record by record in this process, over lines that are already in memory and with one answer buffer that is not cleared between
+//! records. They take turns, and of several turns each one's best counts. What both answer is compared once, before anything is timed.
+
+use peer::gate::Gate;
+use peer::memory;
+use std::fmt::Write as _;
+use std::hint::black_box;
+use std::process::{Command, Stdio};
+use std::time::Instant;
+
+#[path = "../../../include/ticketmoss.rs"]
+mod ticketmoss;
+
+const GROUPS: usize = 8;
+const SYMBOLS: u64 = 64;
+const TURNS: usize = 5;
+const CEILING: u64 = 4_000_000_000_000_000_000;
+
+/// Numbers that are the same in every run (splitmix64).
+struct Draw(u64);
+
+impl Draw {
+    fn below(&mut self, bound: u64) -> u64 {
+        self.0 = self.0.wrapping_add(0x9e37_79b9_7f4a_7c15);
+        let mut z = self.0;
+        z = (z ^ (z >> 30)).wrapping_mul(0xbf58_476d_1ce4_e5b9);
+        z = (z ^ (z >> 27)).wrapping_mul(0x94d0_49bb_1331_11eb);
+        (z ^ (z >> 31)) % bound
+    }
+}
+
+fn mpid(group: u64) -> String {
+    format!("DSK{}", (b'A' + group as u8) as char)
+}
+
+/// The lines of setup: groups that no limit stops, symbols, the opening, and a quote of 10.00 for each symbol.
+fn setup() -> Vec<String> {
+    let mut lines = Vec::new();
+    for group in 0..GROUPS as u64 {
+        let mut line = format!("G\t{}", mpid(group));
+        for _ in 0..6 {
+            let _ = write!(line, "\t{CEILING}");
+        }
+        lines.push(line + "\t1000000\tY\n");
+    }
+    lines.extend((1..=SYMBOLS).map(|symbol| format!("S\t{symbol}\n")));
+    lines.push("O\n".into());
+    lines.extend((1..=SYMBOLS).map(|n| format!("Q\t{n}\t{n}\t9990000\t10000000\n")));
+    lines
+}
+
+/// The N of an order, told by its number.
+fn order(number: u64) -> String {
+    let side = if number.is_multiple_of(2) { 'B' } else { 'S' };
+    format!(
+        "N\tORDER-{number:07}\t{}\t{}\t{side}\t1000000\t10000000\n",
+        mpid(number % GROUPS as u64),
+        1 + number % SYMBOLS
+    )
+}
+
+/// The lines of trading, over orders that are numbered from 0: of twenty, five orders (a retry, or 7, once the table is full), five retries, five
+/// fills, two reductions, two quotes and one line that breaks a form.
+fn trading(draw: &mut Draw, lines: usize, mut orders: u64, places: u64, mut notice: u64) -> Vec<String> {
+    let mut day = Vec::with_capacity(lines);
+    for _ in 0..lines {
+        let some = draw.below(orders.clamp(1, places));
+        let desk = mpid(some % GROUPS as u64);
+        let mut number = || {
+            notice += 1;
+            notice
+        };
+        day.push(match draw.below(20) {
+            0..=4 => {
+                orders += 1;
+                order(orders - 1)
+            }
+            5..=9 => order(some),
+            10..=14 => format!("F\t{}\t{desk}\tORDER-{some:07}\t1\t9990000\n", number()),
+            15..=16 => format!("D\t{}\t{desk}\tORDER-{some:07}\t1\n", number()),
+            17..=18 => format!("Q\t{}\t{}\t9990000\t10000000\n", number(), 1 + draw.below(SYMBOLS)),
+            _ => "N\tORDER\t\n".into(),
+        });
+    }
+    day
+}
+
+/// The words of a state with so many places, of which so many are taken.
+fn traded(places: usize, taken: u64) -> Vec<u64> {
+    let mut gate = Gate::new(places);
+    let mut answer = Vec::new();
+    for line in setup().into_iter().chain((0..taken).map(order)) {
+        answer.clear();
+        gate.record(line.as_bytes(), &mut answer);
+    }
+    let mut words = vec![0; ticketmoss::words(places)];
+    memory::store(&gate, &mut words);
+    assert_eq!(ticketmoss::state(&words), Ok(()), "a generated state is a good one");
+    words
+}
+
+/// Nanoseconds for each line, of each of the two on its own copy of a state; the best of several turns.
+fn timed(words: &[u64], lines: &[String], turns: usize) -> (f64, f64) {
+    let mut best = (f64::MAX, f64::MAX);
+    let each = |from: Instant| from.elapsed().as_nanos() as f64 / lines.len() as f64;
+    for _ in 0..turns {
+        let mut own = words.to_vec();
+        let mut answer = [0; ticketmoss::ANSWER_BYTES];
+        let from = Instant::now();
+        for line in lines {
+            black_box(ticketmoss::record(&mut own, line.as_bytes(), &mut answer).is_ok());
+        }
+        best.0 = best.0.min(each(from));
+        let mut own = memory::load(words);
+        let mut answer = Vec::with_capacity(64);
+        let from = Instant::now();
+        for line in lines {
+            answer.clear();
+            black_box(own.record(line.as_bytes(), &mut answer));
+        }
+        best.1 = best.1.min(each(from));
+    }
+    best
+}
+
+/// Both on one day: the answers are the same, and so is the memory after it.
+fn same(words: &[u64], lines: &[String]) {
+    let (mut gate, mut words) = (memory::load(words), words.to_vec());
+    let mut after = words.clone();
+    let (mut answer, mut buffer) = (Vec::new(), [0; ticketmoss::ANSWER_BYTES]);
+    for line in lines {
+        answer.clear();
+        gate.record(line.as_bytes(), &mut answer);
+        let bytes = ticketmoss::record(&mut words, line.as_bytes(), &mut buffer).expect("a good state");
+        assert_eq!(answer, &buffer[..bytes], "{line}");
+    }
+    memory::store(&gate, &mut after);
+    assert!(after == words, "the memory after the day");
+}
+
+fn day_row(name: &str, words: &[u64], lines: &[String], turns: usize) {
+    same(words, lines);
+    let (ours, theirs) = timed(words, lines, turns);
+    println!(
+        "| {name} | {} | {:.0} | {:.0} | {:.1} |",
+        lines.len(),
+        1e9 / ours,
+        1e9 / theirs,
+        ours / theirs
+    );
+}
+
+/// Where the time goes, by lines that go further and further through the gate, each less the one before.
+fn stages(name: &str, places: usize, taken: u64) {
+    let fresh = 64.min(places as u64 - taken);
+    let words = traded(places, taken);
+    let turns = if places > 10_000 { 3 } else { 200 };
+    let many = |line: String| vec![line; 64];
+    // refused for its form at its last byte: read to its end, and answered by ten bytes
+    let damaged = timed(&words, &many(order(taken - 1).replace('\n', "x\n")), turns);
+    // a desk that is not listed: read, and answered by a whole line
+    let unlisted = timed(&words, &many(order(taken - 1).replace("DSK", "NOT")), turns);
+    // a retry of the last order: found, compared, answered
+    let retried = timed(&words, &many(order(taken - 1)), turns);
+    // orders that pass: searched for, judged and stored
+    let passed = timed(&words, &(taken..taken + fresh).map(order).collect::<Vec<_>>(), turns);
+    let mut check = f64::MAX;
+    for _ in 0..turns {
+        let from = Instant::now();
+        for _ in 0..64 {
+            black_box(ticketmoss::state(black_box(&words)).is_ok());
+        }
+        check = check.min(from.elapsed().as_nanos() as f64 / 64.0);
+    }
+    let row = |who: &str, check: f64, times: [f64; 4]| {
+        let [damaged, unlisted, retried, passed] = times;
+        println!(
+            "| {name} | {who} | {check:.0} | {:.0} | {:.0} | {:.0} | {:.0} | {passed:.0} |",
+            damaged - check,
+            unlisted - damaged,
+            retried - unlisted,
+            passed - retried
+        );
+    };
+    row("gate", check, [damaged.0, unlisted.0, retried.0, passed.0]);
+    row("peer", 0.0, [damaged.1, unlisted.1, retried.1, passed.1]);
+}
+
+/// Seconds that a program takes for a day, and what it writes; the best of several turns.
+fn program(command: &[String], day: &str, turns: usize) -> Option<(f64, Vec<u8>)> {
+    let mut best = f64::MAX;
+    let mut wrote = Vec::new();
+    for _ in 0..turns {
+        let input = std::fs::File::open(day).ok()?;
+        let from = Instant::now();
+        let output = Command::new(&command[0])
+            .args(&command[1..])
+            .stdin(input)
+            .stderr(Stdio::inherit())
+            .output()
+            .ok()?;
+        best = best.min(from.elapsed().as_secs_f64());
+        if !output.status.success() {
+            return None;
+        }
+        wrote = output.stdout;
+    }
+    Some((best, wrote))
+}
+
+/// The two programs on the same file. The gate's is for x86-64: elsewhere it runs under an emulator, and its time says nothing.
+fn programs(name: &str, lines: &[String], folder: &str, gate: &[String], peer: &[String]) {
+    let day = format!("{folder}/bench-day.in");
+    if std::fs::write(&day, lines.concat()).is_err() {
+        println!("| {name} | the day could not be written to {folder} | | | |");
+        return;
+    }
+    match (program(gate, &day, 3), program(peer, &day, 3)) {
+        (Some((ours, said)), Some((theirs, other))) => {
+            assert!(said == other, "the programs' answers");
+            let rate = |seconds: f64| format!("{:.0}", lines.len() as f64 / seconds);
+            if cfg!(target_arch = "x86_64") {
+                println!("| {name} | {} | {} | {} | {:.1} |", lines.len(), rate(ours), rate(theirs), ours / theirs);
+            } else {
+                println!("| {name} | {} | same answers; under an emulator | {} | |", lines.len(), rate(theirs));
+            }
+        }
+        _ => println!("| {name} | a program did not run | | | |"),
+    }
+    let _ = std::fs::remove_file(&day);
+}
+
+fn main() {
+    // the folder to write a day to, the peer's program, and the gate's with what runs it
+    let words: Vec<String> = std::env::args().skip(1).collect();
+    let [folder, peer, gate @ ..] = &words[..] else {
+        eprintln!("usage: bench FOLDER PEER GATE..  (the script peer/bench runs it)");
+        std::process::exit(2);
+    };
+    let small: Vec<String> = setup()
+        .into_iter()
+        .chain(trading(&mut Draw(1), 1_000 - setup().len(), 0, 400, SYMBOLS))
+        .collect();
+    let large: Vec<String> = setup()
+        .into_iter()
+        .chain(trading(&mut Draw(2), 300_000 - setup().len(), 0, 400, SYMBOLS))
+        .collect();
+
+    println!("Calls, records a second:\n");
+    println!("| day | lines | gate | peer | times as long |\n|---|---|---|---|---|");
+    let mut fresh = vec![0; ticketmoss::words(400)];
+    ticketmoss::fresh(&mut fresh).expect("words enough");
+    day_row("small, 400 places", &fresh, &small, 20 * TURNS);
+    day_row("large, 400 places", &fresh, &large, TURNS);
+    let over = trading(&mut Draw(3), 2_000, 65_535, 65_535, SYMBOLS);
+    day_row("full table, 65,535 places", &traded(65_535, 65_535), &over, 2);
+
+    println!("\nPrograms, records a second:\n");
+    println!("| day | lines | gate | peer | times as long |\n|---|---|---|---|---|");
+    let peer = [peer.clone()];
+    programs("small", &small, folder, gate, &peer);
+    programs("large", &large, folder, gate, &peer);
+
+    println!("\nWhere the time of an order that passes goes, nanoseconds:\n");
+    println!("| table | who | state check | reading | writing | search | judging and storing | all |");
+    println!("|---|---|---|---|---|---|---|---|");
+    stages("no place taken but one", 400, 1);
+    stages("336 of 400 places taken", 400, 336);
+    stages("65,471 of 65,535 places taken", 65_535, 65_471);
+}
