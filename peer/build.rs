@@ -2,7 +2,8 @@
 fn main() {
     println!("cargo:rerun-if-env-changed=TICKETMOSS_ARCHIVE");
     if std::env::var_os("CARGO_FEATURE_LINKED").is_some() {
-        let archive = std::env::var("TICKETMOSS_ARCHIVE").expect("the script peer/bench sets TICKETMOSS_ARCHIVE");
+        let archive = std::env::var("TICKETMOSS_ARCHIVE")
+            .expect("the script peer/bench sets TICKETMOSS_ARCHIVE");
         println!("cargo:rerun-if-changed={archive}");
         println!("cargo:rustc-link-arg-bin=bench={archive}");
     }

@@ -63,7 +63,13 @@ fn order(number: u64) -> String {
 
 /// The lines of trading, over orders that are numbered from 0: of twenty, five orders (a retry, or 7, once the table is full), five retries, five
 /// fills, two reductions, two quotes and one line that breaks a form.
-fn trading(draw: &mut Draw, lines: usize, mut orders: u64, places: u64, mut notice: u64) -> Vec<String> {
+fn trading(
+    draw: &mut Draw,
+    lines: usize,
+    mut orders: u64,
+    places: u64,
+    mut notice: u64,
+) -> Vec<String> {
     let mut day = Vec::with_capacity(lines);
     for _ in 0..lines {
         let some = draw.below(orders.clamp(1, places));
@@ -133,7 +139,8 @@ fn same(words: &[u64], lines: &[String]) {
     for line in lines {
         answer.clear();
         gate.record(line.as_bytes(), &mut answer);
-        let bytes = ticketmoss::record(&mut words, line.as_bytes(), &mut buffer).expect("a good state");
+        let bytes =
+            ticketmoss::record(&mut words, line.as_bytes(), &mut buffer).expect("a good state");
         assert_eq!(answer, &buffer[..bytes], "{line}");
     }
     memory::store(&gate, &mut after);
@@ -152,39 +159,45 @@ fn day_row(name: &str, words: &[u64], lines: &[String], turns: usize) {
     );
 }
 
+/// Nanoseconds of the state check alone.
+fn checked(words: &[u64], turns: usize) -> f64 {
+    let mut best = f64::MAX;
+    for _ in 0..turns {
+        let from = Instant::now();
+        for _ in 0..64 {
+            black_box(ticketmoss::state(black_box(words)).is_ok());
+        }
+        best = best.min(from.elapsed().as_nanos() as f64 / 64.0);
+    }
+    best
+}
+
 /// Where the time goes, by lines that go further and further through the gate, each less the one before.
-fn stages(name: &str, places: usize, taken: u64) {
-    let fresh = 64.min(places as u64 - taken);
+fn stages(name: &str, places: usize, taken: u64, turns: usize) {
     let words = traded(places, taken);
-    let turns = if places > 10_000 { 3 } else { 200 };
     let many = |line: String| vec![line; 64];
+    let check = checked(&words, turns);
     // refused for its form at its last byte: read to its end, and answered by ten bytes
     let damaged = timed(&words, &many(order(taken - 1).replace('\n', "x\n")), turns);
     // a desk that is not listed: read, and answered by a whole line
     let unlisted = timed(&words, &many(order(taken - 1).replace("DSK", "NOT")), turns);
     // a retry of the last order: found, compared, answered
     let retried = timed(&words, &many(order(taken - 1)), turns);
-    // orders that pass: searched for, judged and stored
-    let passed = timed(&words, &(taken..taken + fresh).map(order).collect::<Vec<_>>(), turns);
-    let mut check = f64::MAX;
-    for _ in 0..turns {
-        let from = Instant::now();
-        for _ in 0..64 {
-            black_box(ticketmoss::state(black_box(&words)).is_ok());
-        }
-        check = check.min(from.elapsed().as_nanos() as f64 / 64.0);
-    }
+    // orders that pass: searched for, judged and stored; the table grows by 64 places, and the state check with it
+    let passed = timed(&words, &(taken..taken + 64).map(order).collect::<Vec<_>>(), turns);
+    let grown = (checked(&traded(places, taken + 64), turns) - check) / 2.0;
     let row = |who: &str, check: f64, times: [f64; 4]| {
-        let [damaged, unlisted, retried, passed] = times;
+        let [damaged, unlisted, retried, passed] = times.map(|t| t / 1000.0);
+        let check = check / 1000.0;
         println!(
-            "| {name} | {who} | {check:.0} | {:.0} | {:.0} | {:.0} | {:.0} | {passed:.0} |",
+            "| {name} | {who} | {check:.2} | {:.2} | {:.2} | {:.2} | {:.2} | {passed:.2} |",
             damaged - check,
             unlisted - damaged,
             retried - unlisted,
             passed - retried
         );
     };
-    row("gate", check, [damaged.0, unlisted.0, retried.0, passed.0]);
+    row("gate", check, [damaged.0, unlisted.0, retried.0, passed.0 - grown]);
     row("peer", 0.0, [damaged.1, unlisted.1, retried.1, passed.1]);
 }
 
@@ -217,14 +230,25 @@ fn programs(name: &str, lines: &[String], folder: &str, gate: &[String], peer: &
         println!("| {name} | the day could not be written to {folder} | | | |");
         return;
     }
-    match (program(gate, &day, 3), program(peer, &day, 3)) {
+    let turns = if cfg!(target_arch = "x86_64") { 3 } else { 1 };
+    match (program(gate, &day, turns), program(peer, &day, turns)) {
         (Some((ours, said)), Some((theirs, other))) => {
             assert!(said == other, "the programs' answers");
             let rate = |seconds: f64| format!("{:.0}", lines.len() as f64 / seconds);
             if cfg!(target_arch = "x86_64") {
-                println!("| {name} | {} | {} | {} | {:.1} |", lines.len(), rate(ours), rate(theirs), ours / theirs);
+                println!(
+                    "| {name} | {} | {} | {} | {:.1} |",
+                    lines.len(),
+                    rate(ours),
+                    rate(theirs),
+                    ours / theirs
+                );
             } else {
-                println!("| {name} | {} | same answers; under an emulator | {} | |", lines.len(), rate(theirs));
+                println!(
+                    "| {name} | {} | same answers; under an emulator | {} | |",
+                    lines.len(),
+                    rate(theirs)
+                );
             }
         }
         _ => println!("| {name} | a program did not run | | | |"),
@@ -255,7 +279,8 @@ fn main() {
     day_row("small, 400 places", &fresh, &small, 20 * TURNS);
     day_row("large, 400 places", &fresh, &large, TURNS);
     let over = trading(&mut Draw(3), 2_000, 65_535, 65_535, SYMBOLS);
-    day_row("full table, 65,535 places", &traded(65_535, 65_535), &over, 2);
+    let full = traded(65_535, 65_535);
+    day_row("full table, 65,535 places", &full, &over, 2);
 
     println!("\nPrograms, records a second:\n");
     println!("| day | lines | gate | peer | times as long |\n|---|---|---|---|---|");
@@ -263,10 +288,17 @@ fn main() {
     programs("small", &small, folder, gate, &peer);
     programs("large", &large, folder, gate, &peer);
 
-    println!("\nWhere the time of an order that passes goes, nanoseconds:\n");
-    println!("| table | who | state check | reading | writing | search | judging and storing | all |");
+    println!("\nWhere the time of an order that passes goes, microseconds:\n");
+    println!(
+        "| table | who | state check | reading | writing | search | judging and storing | all |"
+    );
     println!("|---|---|---|---|---|---|---|---|");
-    stages("no place taken but one", 400, 1);
-    stages("336 of 400 places taken", 400, 336);
-    stages("65,471 of 65,535 places taken", 65_535, 65_471);
+    stages("1 of 400 places taken", 400, 1, 400);
+    stages("336 of 400 places taken", 400, 336, 400);
+    let retried = timed(&full, &vec![order(65_534); 64], 5).0;
+    println!(
+        "\nAt 65,535 places taken the state check is {:.0} of the {:.0} microseconds of a retry.",
+        checked(&full, 5) / 1000.0,
+        retried / 1000.0
+    );
 }
