@@ -13,6 +13,7 @@
 
 mod books;
 mod checks;
+pub mod days;
 pub mod gate;
 pub mod line;
 pub mod memory;

@@ -199,4 +199,17 @@ fn main() {
     run_day(b"base-1006", b"base-1006.in", b"base-1006.out");
     run_day(b"base-1007", b"base-1007.in", b"base-1007.out");
     run_day(b"base-1008", b"base-1008.in", b"base-1008.out");
+    run_day(b"two-desks", b"two-desks.in", b"two-desks.out");
+    run_day(b"drawn-7-01", b"drawn-7-01.in", b"drawn-7-01.out");
+    run_day(b"drawn-7-02", b"drawn-7-02.in", b"drawn-7-02.out");
+    run_day(b"drawn-7-03", b"drawn-7-03.in", b"drawn-7-03.out");
+    run_day(b"drawn-7-04", b"drawn-7-04.in", b"drawn-7-04.out");
+    run_day(b"drawn-7-05", b"drawn-7-05.in", b"drawn-7-05.out");
+    run_day(b"drawn-7-06", b"drawn-7-06.in", b"drawn-7-06.out");
+    run_day(b"drawn-7-07", b"drawn-7-07.in", b"drawn-7-07.out");
+    run_day(b"drawn-7-08", b"drawn-7-08.in", b"drawn-7-08.out");
+    run_day(b"drawn-7-09", b"drawn-7-09.in", b"drawn-7-09.out");
+    run_day(b"drawn-7-10", b"drawn-7-10.in", b"drawn-7-10.out");
+    run_day(b"drawn-7-11", b"drawn-7-11.in", b"drawn-7-11.out");
+    run_day(b"drawn-7-12", b"drawn-7-12.in", b"drawn-7-12.out");
 }

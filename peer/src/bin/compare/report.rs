@@ -1,0 +1,111 @@
+//! A difference, written so that a person can follow it.
+
+use peer::memory;
+
+use crate::count::Counts;
+use crate::day::{self, Day, Peer};
+use crate::map;
+use crate::memories::{changes, Batch, Judged, Tally};
+use crate::worker::{Command, Program, Worker, AT_START, LINE_READ_ONLY};
+use crate::wrong::Wrong;
+
+fn lent(mode: u8) -> String {
+    let side = if mode & AT_START == 0 { "end before" } else { "begin behind" };
+    let line = if mode & LINE_READ_ONLY == 0 { "" } else { ", the line is read-only" };
+    format!("The lent slices {side} a page that cannot be touched{line}.\n")
+}
+
+fn sides(library: &Result<String, String>, peer: &str) -> String {
+    match library {
+        Ok(text) if text == peer => format!("      both: {peer}\n"),
+        Ok(text) | Err(text) => format!("   library: {text}\n      peer: {peer}   <-- differs\n"),
+    }
+}
+
+/// A day, line by line with what each side answered.
+pub fn day(day: &Day, first: &str, program: &Program, wrong: Wrong) -> String {
+    let (lines, words, room) = (day.steps.len(), day.words, memory::room(day.words));
+    let mut text = format!("A day on which the two sides differ.\n{first}\n\n");
+    text += &format!("{lines} lines, {words} words (room for {room} places), ");
+    text += &format!("all {} before the fresh state. {}\n", day.fill, lent(day.mode));
+    let Ok(mut worker) = Worker::start(program) else {
+        return text;
+    };
+    let mut peer = Peer::new(day, wrong);
+    worker.send(day::fresh(day));
+    let mut alive = worker.reply().map(|_| ());
+    for step in &day.steps {
+        text += &format!("\"{}\"", step.line.escape_ascii());
+        text +=
+            &if step.size == 32 { "\n".into() } else { format!(" (buffer of {})\n", step.size) };
+        let theirs = peer.step(step, &mut Counts::default()).text();
+        let ours = alive.clone().and_then(|()| {
+            worker.send(day::records(day.pattern, std::slice::from_ref(step)));
+            worker.reply().map(|mut reply| reply.answer().text())
+        });
+        text += &sides(&ours, &theirs);
+        alive = ours.map(|_| ());
+    }
+    if alive.is_ok() {
+        text += &day_end(day, &peer, &mut worker).unwrap_or_else(|stopped| stopped);
+    }
+    text
+}
+
+/// State, words and closing lines.
+fn day_end(day: &Day, peer: &Peer, worker: &mut Worker) -> Result<String, String> {
+    worker.send(Command::new(b'S'));
+    let result = worker.reply()?.i64();
+    let mut text = format!("state\n{}", sides(&Ok(result.to_string()), "0"));
+    worker.send(Command::new(b'G'));
+    let ours: Vec<u64> = worker.reply()?.words().collect();
+    for (i, (a, b)) in ours.iter().zip(&peer.words()).enumerate().filter(|(_, (a, b))| a != b) {
+        text += &format!("word {i}, {}\n", map::name(i, ours.len()));
+        text += &sides(&Ok(a.to_string()), &b.to_string());
+    }
+    let asked = peer.closings();
+    worker.send(day::closings(day.pattern, &asked));
+    let mut reply = worker.reply()?;
+    for (place, size, theirs) in &asked {
+        text += &format!("closing line {place} (buffer of {size})\n");
+        text += &sides(&Ok(reply.answer().text()), &theirs.text());
+    }
+    Ok(text)
+}
+
+/// A memory, by its words that are not 0, and what each side made of it.
+pub fn memory(batch: &Batch, program: &Program, wrong: Wrong) -> String {
+    let variant = &batch.variants[0];
+    let words = &batch.base;
+    let rule = memory::broken_rule(words).unwrap_or("none");
+    let mut text = "A memory of which the two sides think differently.\n\n".to_string();
+    text += &format!("{} words (room for {} places). ", words.len(), memory::room(words.len()));
+    text += &lent(batch.mode);
+    text += &format!("State rule that is broken, by the peer: {rule}.\nAll words are 0 but\n");
+    for (i, word) in words.iter().enumerate().filter(|(_, word)| **word != 0) {
+        let bytes = word.to_le_bytes();
+        let end = bytes.iter().rposition(|&b| b != 0).map_or(0, |i| i + 1);
+        let shown = bytes[..end].escape_ascii();
+        text += &format!("{i:7}  {word:20}  {:30} \"{shown}\"\n", map::name(i, words.len()));
+    }
+    let line = variant.line.escape_ascii();
+    text += &format!("\nrecord \"{line}\" (buffer of {}), then ", variant.size);
+    text += &format!("closing line {} (buffer of {})\n", variant.place, variant.closing_size);
+    let theirs = batch.peer(variant, wrong, &mut Tally::default());
+    let ours = Worker::start(program).map_err(|error| error.to_string()).and_then(|mut worker| {
+        worker.send(batch.lend());
+        worker.send(batch.ask());
+        worker.reply()?;
+        worker.reply().map(|mut reply| Judged::read(&mut reply))
+    });
+    let count = words.len();
+    let mut part = |name: &str, of: &dyn Fn(&Judged) -> String| {
+        let library = ours.as_ref().map(of).map_err(Clone::clone);
+        text += &format!("{name}\n{}", sides(&library, &of(&theirs)));
+    };
+    part("state", &|j| j.state.to_string());
+    part("record", &|j| j.record.text());
+    part("words changed by the record", &|j| changes(&j.changed, count));
+    part("closing line", &|j| j.closing.text());
+    text
+}

@@ -1,0 +1,265 @@
+//! All comparisons of a run, shared out to some threads with a worker each.
+
+use std::sync::atomic::{AtomicBool, AtomicU64, AtomicUsize, Ordering::Relaxed};
+use std::sync::Mutex;
+use std::thread;
+use std::time::{Duration, Instant};
+
+use peer::days::Plan;
+use peer::memory::MOST_PLACES;
+
+use crate::count::Counts;
+use crate::day::{self, Day};
+use crate::lengths;
+use crate::memories::{self, Batch, Tally};
+use crate::report;
+use crate::shrink::Shrinker;
+use crate::states::{self, Kind, LENGTHS, VARIANTS};
+use crate::worker::{Program, Worker};
+use crate::wrong::Wrong;
+use crate::Difference;
+
+pub struct Settings {
+    pub program: Program,
+    pub wrong: Wrong,
+    pub seed: u64,
+    pub jobs: usize,
+    /// Tell how far it has come.
+    pub progress: bool,
+}
+
+/// One comparison. Each is drawn from the seed and its index alone.
+#[derive(Clone, Copy)]
+enum Task {
+    Sizes,
+    Fresh,
+    Lengths(usize),
+    Day { index: u64, most: usize },
+    Memories { index: u64, kind: Kind, variants: usize },
+}
+
+/// All comparisons of a run.
+pub struct Work {
+    tasks: Vec<Task>,
+    pub days: usize,
+    records: u64,
+    memories: u64,
+}
+
+impl Work {
+    /// So many records in days, and so many memories.
+    pub fn plan(seed: u64, records: usize, memories: usize) -> Work {
+        let mut tasks = vec![Task::Sizes, Task::Fresh];
+        tasks.extend((0..lengths::PARTS).map(Task::Lengths));
+        tasks.extend(memory_tasks(memories));
+        let mut left = records;
+        let mut days = 0;
+        while left > 0 {
+            let most = Plan::new(seed, days).lines.min(left);
+            tasks.push(Task::Day { index: days, most });
+            left -= most;
+            days += 1;
+        }
+        let (records, memories) = (records as u64, memories as u64);
+        Work { tasks, days: days as usize, records, memories }
+    }
+}
+
+fn memory_tasks(memories: usize) -> Vec<Task> {
+    let mut kinds = Vec::new();
+    if memories >= 20_000 {
+        kinds.extend([(Kind::Places(MOST_PLACES), 6), (Kind::Places(20_000), 6)]);
+        // All lengths, with three kinds of contents.
+        for content in 0..3 {
+            for first in (0..LENGTHS).step_by(VARIANTS) {
+                kinds.push((Kind::Lengths { content, first }, VARIANTS.min(LENGTHS - first)));
+            }
+        }
+    }
+    let mut tasks = Vec::new();
+    let mut left = memories;
+    for index in 0.. {
+        let (kind, variants) = match kinds.get(index) {
+            Some(&kind) => kind,
+            None if index % 16 == 7 => (Kind::Random, VARIANTS),
+            None if index % 16 == 11 => {
+                let first = index * 211 % LENGTHS;
+                (Kind::Lengths { content: index / 16 % 3, first }, VARIANTS)
+            }
+            None => (Kind::Day, VARIANTS),
+        };
+        let variants = variants.min(left);
+        if variants == 0 {
+            break;
+        }
+        tasks.push(Task::Memories { index: index as u64, kind, variants });
+        left -= variants;
+    }
+    tasks
+}
+
+/// What failed.
+pub enum Case {
+    Day(Day),
+    Memory(Batch, Option<usize>),
+    /// A call about lengths; there is nothing to make smaller.
+    Lengths,
+}
+
+pub struct Found {
+    task: usize,
+    pub case: Case,
+    pub difference: Difference,
+}
+
+/// What came of a run.
+pub struct Outcome {
+    pub counts: Counts,
+    pub tally: Tally,
+    pub found: Option<Found>,
+}
+
+#[derive(Default)]
+struct Shared {
+    next: AtomicUsize,
+    stop: AtomicBool,
+    done: AtomicBool,
+    records: AtomicU64,
+    memories: AtomicU64,
+    found: Mutex<Vec<Found>>,
+}
+
+/// Runs until all is compared or something differs.
+pub fn run(settings: &Settings, work: &Work) -> Result<Outcome, String> {
+    let shared = Shared::default();
+    let mut outcome = Outcome { counts: Counts::default(), tally: Tally::default(), found: None };
+    thread::scope(|scope| {
+        let threads: Vec<_> = (0..settings.jobs.max(1))
+            .map(|_| scope.spawn(|| serve(settings, work, &shared)))
+            .collect();
+        if settings.progress {
+            scope.spawn(|| tell(work, &shared));
+        }
+        let mut failed = None;
+        for thread in threads {
+            match thread.join() {
+                Ok(Ok((counts, tally))) => {
+                    outcome.counts.merge(&counts);
+                    outcome.tally.merge(&tally);
+                }
+                Ok(Err(text)) => failed = Some(text),
+                Err(_) => failed = Some("a thread of the harness failed".to_string()),
+            }
+        }
+        shared.done.store(true, Relaxed);
+        failed.map_or(Ok(()), Err)
+    })?;
+    let found = shared.found.into_inner().map_err(|error| error.to_string())?;
+    outcome.found = found.into_iter().min_by_key(|found| found.task);
+    Ok(outcome)
+}
+
+fn tell(work: &Work, shared: &Shared) {
+    let begun = Instant::now();
+    let mut told = Instant::now();
+    while !shared.done.load(Relaxed) {
+        thread::sleep(Duration::from_millis(100));
+        if told.elapsed() >= Duration::from_secs(5) {
+            told = Instant::now();
+            let (records, memories) = (shared.records.load(Relaxed), shared.memories.load(Relaxed));
+            let seconds = begun.elapsed().as_secs();
+            eprintln!(
+                "{records} of {} records, {memories} of {} memories, {seconds} s",
+                work.records, work.memories
+            );
+        }
+    }
+}
+
+/// One thread: takes the next comparison until there is none.
+fn serve(settings: &Settings, work: &Work, shared: &Shared) -> Result<(Counts, Tally), String> {
+    let start = || Worker::start(&settings.program).map_err(|error| format!("worker: {error}"));
+    let mut worker = start()?;
+    let (mut counts, mut tally) = (Counts::default(), Tally::default());
+    while !shared.stop.load(Relaxed) {
+        let at = shared.next.fetch_add(1, Relaxed);
+        let Some(task) = work.tasks.get(at) else {
+            break;
+        };
+        let result = compare(*task, settings, &mut worker, &mut counts, &mut tally);
+        match *task {
+            Task::Day { most, .. } => shared.records.fetch_add(most as u64, Relaxed),
+            Task::Memories { variants, .. } => shared.memories.fetch_add(variants as u64, Relaxed),
+            _ => 0,
+        };
+        if let Err((case, difference)) = result {
+            shared.stop.store(true, Relaxed);
+            if let Ok(mut found) = shared.found.lock() {
+                found.push(Found { task: at, case, difference });
+            }
+        }
+    }
+    Ok((counts, tally))
+}
+
+fn compare(
+    task: Task,
+    settings: &Settings,
+    worker: &mut Worker,
+    counts: &mut Counts,
+    tally: &mut Tally,
+) -> Result<(), (Case, Difference)> {
+    let (seed, wrong) = (settings.seed, settings.wrong);
+    let lengths = |result: Result<(), Difference>| result.map_err(|d| (Case::Lengths, d));
+    match task {
+        Task::Sizes => lengths(lengths::sizes(worker)),
+        Task::Fresh => lengths(lengths::fresh(worker)),
+        Task::Day { index, most } => {
+            let day = day::make(seed, index, most);
+            day::compare(&day, worker, wrong, counts).map_err(|d| (Case::Day(day), d))
+        }
+        Task::Lengths(part) => {
+            let batch = lengths::make(part);
+            memories::compare(&batch, worker, wrong, &mut Tally::default())
+                .map_err(|(which, d)| (Case::Memory(batch, which), d))
+        }
+        Task::Memories { index, kind, variants } => {
+            let batch = states::make(seed, index, kind, variants);
+            memories::compare(&batch, worker, wrong, tally)
+                .map_err(|(which, d)| (Case::Memory(batch, which), d))
+        }
+    }
+}
+
+/// The smallest input that fails, as far as one is found.
+pub fn shrink(settings: &Settings, found: &Found) -> Case {
+    let shrinker = Shrinker { program: &settings.program, wrong: settings.wrong };
+    match &found.case {
+        Case::Day(day) => Case::Day(shrinker.day(day, &found.difference)),
+        Case::Memory(batch, which) => match shrinker.memory(batch, *which) {
+            Some(batch) => Case::Memory(batch, Some(0)),
+            None => Case::Memory(batch.clone(), *which),
+        },
+        Case::Lengths => Case::Lengths,
+    }
+}
+
+/// What is written down of a difference.
+pub fn report(settings: &Settings, found: &Found, least: &Case) -> String {
+    let first = &found.difference.text;
+    match least {
+        Case::Day(day) => report::day(day, first, &settings.program, settings.wrong),
+        Case::Memory(batch, Some(0)) if batch.variants.len() == 1 => {
+            report::memory(batch, &settings.program, settings.wrong)
+        }
+        Case::Memory(batch, which) => {
+            let (count, which) =
+                (batch.variants.len(), which.map_or("?".into(), |i| i.to_string()));
+            format!(
+                "Only in a row of {count} memories (seed {}), at {which}: {first}\n",
+                settings.seed
+            )
+        }
+        Case::Lengths => format!("{first}\n"),
+    }
+}

@@ -1,0 +1,212 @@
+//! The smallest input on which the two sides still differ.
+
+use peer::gate::Gate;
+use peer::memory;
+
+use crate::count::Counts;
+use crate::day::{self, Day, Step};
+use crate::map::{self, Region};
+use crate::memories::{self, Batch, Tally, Variant};
+use crate::worker::{Program, Worker};
+use crate::wrong::Wrong;
+use crate::Difference;
+
+/// Every try has a worker of its own.
+pub struct Shrinker<'a> {
+    pub program: &'a Program,
+    pub wrong: Wrong,
+}
+
+/// Leaves out as many items as can be while it still fails.
+fn fewest<T: Clone>(mut items: Vec<T>, mut fails: impl FnMut(&[T]) -> bool) -> Vec<T> {
+    let mut part = items.len().div_ceil(2);
+    while part > 0 {
+        let mut from = 0;
+        let mut fewer = false;
+        while from < items.len() {
+            let to = (from + part).min(items.len());
+            let tried = [&items[..from], &items[to..]].concat();
+            if fails(&tried) {
+                items = tried;
+                fewer = true;
+            } else {
+                from = to;
+            }
+        }
+        // Single items are gone through until none can be left out.
+        part = match part {
+            1 if fewer => 1,
+            part => part / 2,
+        };
+    }
+    items
+}
+
+/// What becomes of each step's notice: K or A takes its number, S does not.
+fn outcomes(day: &Day) -> Vec<u8> {
+    let mut gate = Gate::new(memory::room(day.words));
+    let mut outcome = |step: &Step| match step.size >= 32 {
+        true => gate.record(&step.line, &mut Vec::new()).outcome,
+        false => b'-',
+    };
+    day.steps.iter().map(&mut outcome).collect()
+}
+
+/// Only these steps, with numbers that leave no gap where a notice is left out.
+fn renumbered(steps: &[Step], outcomes: &[u8], kept: &[usize]) -> Vec<Step> {
+    let mut last = 0;
+    let renumber = |&i: &usize| {
+        let mut step = steps[i].clone();
+        let mut fields: Vec<&[u8]> = step.line.split(|&b| b == b'\t').collect();
+        let number = match outcomes[i] {
+            b'K' | b'A' => {
+                last += 1;
+                last
+            }
+            b'S' => {
+                let number = String::from_utf8_lossy(fields[1]).parse().unwrap_or(last);
+                number.min(last).max(1)
+            }
+            _ => return step,
+        };
+        let number = number.to_string().into_bytes();
+        fields[1] = &number;
+        step.line = fields.join(&b'\t');
+        step
+    };
+    kept.iter().map(renumber).collect()
+}
+
+impl Shrinker<'_> {
+    fn day_fails(&self, day: &Day) -> Option<Difference> {
+        let mut worker = Worker::start(self.program).ok()?;
+        day::compare(day, &mut worker, self.wrong, &mut Counts::default()).err()
+    }
+
+    /// The fewest lines, the smallest room.
+    pub fn day(&self, day: &Day, difference: &Difference) -> Day {
+        let mut least = day.clone();
+        least.steps.truncate(difference.steps);
+        least.every = least.steps.len().max(1);
+        if self.day_fails(&least).is_none() {
+            least = day.clone();
+        }
+        least = self.smaller_room(least);
+        let outcomes = outcomes(&least);
+        let frame = least.clone();
+        let with = |kept: &[usize]| Day {
+            steps: renumbered(&frame.steps, &outcomes, kept),
+            every: frame.every.min(kept.len().max(1)),
+            ..frame.clone()
+        };
+        let all = (0..least.steps.len()).collect();
+        let kept = fewest(all, |kept| self.day_fails(&with(kept)).is_some());
+        self.smaller_room(with(&kept))
+    }
+
+    fn smaller_room(&self, day: Day) -> Day {
+        let rooms = [0, 1, 2, 5, 40].map(|room| Day { words: memory::words(room), ..day.clone() });
+        let fails = |tried: &Day| tried.words < day.words && self.day_fails(tried).is_some();
+        rooms.into_iter().find(fails).unwrap_or(day)
+    }
+
+    fn batch_fails(&self, batch: &Batch) -> bool {
+        let Ok(mut worker) = Worker::start(self.program) else {
+            return false;
+        };
+        memories::compare(batch, &mut worker, self.wrong, &mut Tally::default()).is_err()
+    }
+
+    /// A batch with the one variant that fails.
+    fn single(&self, batch: &Batch, which: Option<usize>) -> Option<Batch> {
+        let alone = |i: usize| {
+            let variant = &batch.variants[i];
+            let base = batch.words(variant);
+            let variant = Variant { pokes: Vec::new(), ..variant.clone() };
+            Batch { base, variants: vec![variant], ..*batch }
+        };
+        let all = which.map_or(0..batch.variants.len(), |i| i..i + 1);
+        all.map(alone).find(|batch| self.batch_fails(batch))
+    }
+
+    /// The least words, places, groups and symbols, and the shortest memory.
+    pub fn memory(&self, batch: &Batch, which: Option<usize>) -> Option<Batch> {
+        let mut least = self.single(batch, which)?;
+        let with_words = |words: Vec<u64>, least: &Batch| {
+            let variant = Variant { count: words.len(), ..least.variants[0].clone() };
+            Batch { base: words, variants: vec![variant], ..*least }
+        };
+        // Without the record, without the closing line.
+        let mut tried = least.clone();
+        (tried.variants[0].line, tried.variants[0].size) = (Vec::new(), 0);
+        if self.batch_fails(&tried) {
+            least = tried;
+        }
+        let mut tried = least.clone();
+        (tried.variants[0].place, tried.variants[0].closing_size) = (0, 0);
+        if self.batch_fails(&tried) {
+            least = tried;
+        }
+        // Fewer rows.
+        for region in [Region::Key, Region::Symbol, Region::Group] {
+            if least.base.len() < memory::LEAST_WORDS {
+                break;
+            }
+            let rows: Vec<usize> = (0..region.used(&least.base)).collect();
+            let frame = least.clone();
+            let keep = |rows: &[usize]| with_words(keep_rows(&frame.base, region, rows), &frame);
+            let rows = fewest(rows, |rows| self.batch_fails(&keep(rows)));
+            if rows.len() < region.used(&least.base) {
+                least = keep(&rows);
+            }
+        }
+        // A shorter memory.
+        let count = least.base.len();
+        for shorter in [0, 1, 1_668, 1_669, 1_686, 1_703, memory::words(memory::room(count))] {
+            let tried = with_words(map::resize(&least.base, shorter), &least);
+            if shorter < count && self.batch_fails(&tried) {
+                least = tried;
+                break;
+            }
+        }
+        // Zeros.
+        let used: Vec<usize> = (0..least.base.len()).filter(|&i| least.base[i] != 0).collect();
+        let frame = least.clone();
+        let only = |kept: &[usize]| {
+            let mut words = vec![0; frame.base.len()];
+            kept.iter().for_each(|&i| words[i] = frame.base[i]);
+            with_words(words, &frame)
+        };
+        Some(only(&fewest(used, |kept| self.batch_fails(&only(kept)))))
+    }
+}
+
+/// Only these rows of a region; of places the key, request and order, with totals that go
+/// with what is left.
+fn keep_rows(words: &[u64], region: Region, rows: &[usize]) -> Vec<u64> {
+    let room = memory::room(words.len());
+    let mut kept = words.to_vec();
+    let (regions, count): (&[Region], usize) = match region {
+        Region::Group => (&[Region::Group], 2),
+        Region::Symbol => (&[Region::Symbol], 3),
+        _ => (&[Region::Key, Region::Request, Region::Order], 4),
+    };
+    if count == 4 {
+        for place in (0..Region::Key.used(words)).filter(|place| !rows.contains(place)) {
+            crate::states::book_order(&mut kept, place, false);
+        }
+    }
+    for region in regions {
+        let (first, _, width) = region.shape(room);
+        let used = region.used(words);
+        for (to, &from) in rows.iter().enumerate() {
+            let (to, from) = (first + to * width, first + from * width);
+            kept[to..to + width].copy_from_slice(&words[from..from + width]);
+        }
+        kept[first + rows.len() * width..first + used * width].fill(0);
+    }
+    // A count that is too high stays so.
+    let missing = region.used(words) - rows.len();
+    kept[count] = words[count].wrapping_sub(missing as u64);
+    kept
+}

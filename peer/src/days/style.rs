@@ -1,0 +1,109 @@
+//! What a day is mostly about.
+
+use super::rng::Rng;
+
+/// What a draw is about.
+#[derive(Clone, Copy, Debug)]
+#[allow(missing_docs)]
+pub enum Act {
+    New,
+    Change,
+    Cancel,
+    Block,
+    Unblock,
+    Quote,
+    Fill,
+    Reduce,
+    CancelRefused,
+    /// A request again.
+    Retry,
+    /// A known identifier with another request.
+    Altered,
+    /// A known identifier under another MPID.
+    Elsewhere,
+    /// One of the last lines again.
+    Echo,
+    /// A price at the line of price protection.
+    Protect,
+    /// Exposure at a limit.
+    AimNew,
+    AimChange,
+    AimFill,
+    AimReduce,
+    /// G, S, O.
+    Setup,
+}
+
+impl Act {
+    /// It is about an open order.
+    pub fn needs_order(self) -> bool {
+        use Act::{AimChange, AimFill, AimReduce, Cancel, CancelRefused, Change, Fill, Reduce};
+        matches!(
+            self,
+            Change | Cancel | Fill | Reduce | CancelRefused | AimChange | AimFill | AimReduce
+        )
+    }
+}
+
+const ACTS: [Act; 19] = [
+    Act::New,
+    Act::Change,
+    Act::Cancel,
+    Act::Block,
+    Act::Unblock,
+    Act::Quote,
+    Act::Fill,
+    Act::Reduce,
+    Act::CancelRefused,
+    Act::Retry,
+    Act::Altered,
+    Act::Elsewhere,
+    Act::Echo,
+    Act::Protect,
+    Act::AimNew,
+    Act::AimChange,
+    Act::AimFill,
+    Act::AimReduce,
+    Act::Setup,
+];
+
+/// How often each act is drawn, and with what kind of figures.
+#[derive(Clone, Debug)]
+pub struct Style {
+    /// Its name.
+    pub name: &'static str,
+    /// So many lines in a hundred are damaged.
+    pub damage: u64,
+    /// Few prices and small sizes, so that totals fall on limits by themselves.
+    pub grid: bool,
+    /// Values near the ceiling.
+    pub large: bool,
+    weights: [u64; 19],
+    limits: [u64; 7],
+}
+
+/// The styles of days.
+#[rustfmt::skip]
+pub const STYLES: [Style; 8] = [
+    //                                                                      N   M  C  B  R  Q   F  D  H  again     Prot aims         set   limits
+    Style { name: "usual",   damage: 3,  grid: false, large: false, weights: [24, 10, 7, 1, 3, 6, 10, 5, 4, 6, 5, 2, 2, 6, 5, 3, 4, 2, 1], limits: [12, 3, 1, 5, 1, 1, 2] },
+    Style { name: "retries", damage: 1,  grid: false, large: false, weights: [20, 8, 5, 2, 3, 3, 6, 3, 2, 20, 18, 8, 8, 2, 2, 1, 1, 1, 1], limits: [12, 2, 1, 5, 1, 1, 1] },
+    Style { name: "notices", damage: 1,  grid: false, large: false, weights: [22, 6, 10, 1, 4, 10, 20, 12, 12, 2, 2, 1, 3, 2, 2, 1, 4, 3, 0], limits: [14, 2, 1, 4, 0, 1, 2] },
+    Style { name: "prices",  damage: 0,  grid: false, large: false, weights: [8, 4, 1, 0, 1, 4, 2, 1, 1, 1, 1, 0, 0, 60, 2, 2, 1, 0, 0], limits: [9, 0, 0, 0, 0, 0, 1] },
+    Style { name: "limits",  damage: 0,  grid: false, large: false, weights: [10, 4, 2, 1, 6, 2, 6, 2, 1, 2, 1, 0, 1, 1, 26, 14, 18, 8, 0], limits: [0, 6, 4, 6, 2, 3, 3] },
+    Style { name: "grid",    damage: 0,  grid: true,  large: false, weights: [30, 12, 4, 1, 7, 2, 14, 9, 2, 2, 1, 1, 1, 0, 4, 3, 4, 6, 0], limits: [1, 10, 6, 1, 1, 0, 0] },
+    Style { name: "ceiling", damage: 0,  grid: false, large: true,  weights: [24, 8, 2, 1, 6, 2, 24, 4, 1, 2, 1, 0, 1, 0, 6, 4, 22, 3, 0], limits: [12, 0, 0, 0, 0, 1, 5] },
+    Style { name: "damage",  damage: 45, grid: false, large: false, weights: [24, 10, 7, 3, 3, 6, 10, 5, 4, 4, 4, 2, 6, 2, 2, 1, 2, 1, 3], limits: [10, 3, 1, 4, 1, 1, 1] },
+];
+
+impl Style {
+    /// What the next draw is about.
+    pub fn act(&self, rng: &mut Rng) -> Act {
+        ACTS[rng.weighted(&self.weights)]
+    }
+
+    /// What kind of limits a group gets.
+    pub fn limits(&self, rng: &mut Rng) -> usize {
+        rng.weighted(&self.limits)
+    }
+}

@@ -1,0 +1,355 @@
+/* The worker of the comparison: it links the static library and does what the harness asks for on standard input.
+ *
+ * It is a process of its own for two reasons: a call that touches one byte too far stops this process and not the harness, which can then look
+ * for the smallest such input; and the library is for x86-64, whatever machine the harness runs on.
+ *
+ * Every lent slice lies in its own mapping between two pages that cannot be touched. By the mode it ends directly before the second of them or
+ * begins directly behind the first.
+ *
+ * Numbers are little endian. A command is a u32 with the bytes that follow, a letter and its fields; a reply is a u32 with the bytes that follow.
+ *   W mode count words..           lends these words from now on; they are kept as the base too    -> nothing
+ *   Z mode count fill              lends so many words of one value and makes a fresh state there  -> result
+ *   S                              tries the state rules                                           -> result, flags
+ *   R pattern n (length size line)..         judges n records                                      -> n answers
+ *   E pattern n (place size)..               asks for n closing lines                              -> n answers
+ *   G                              sends the words back                                            -> words
+ *   V pattern n (count pokes (index word).. length size line place size)..
+ *                                  n times from the base, cut to count words and with some words replaced: the state rules, a record, a
+ *                                  closing line                                                    -> n times: result, answer, the words
+ *                                  that the record changed (number, (index word)..), answer
+ *   N n (which number)..           n calls of words (0) or places (1)                              -> n u64
+ * mode u8: 1 the slices begin behind a guard page (else they end before one), 2 the line is read-only, 4 the words are read-only in calls that
+ * change none. pattern u8: what the buffer is filled with before a call. count, n, pokes, index u32; length, size u16; word, fill, place, result
+ * and number 64 bits. An answer: result, flags u8, u16 and so many bytes: the buffer's start up to the last byte that is part of the result or
+ * differs from the pattern. flags: 1 the line was changed, 2 bytes beside a slice were changed, 4 words were changed by a call that changes none.
+ *
+ * An argument makes the worker wrong on purpose, so that the harness can be seen to notice (see `spoil`). */
+#define _DEFAULT_SOURCE
+#include <stdint.h>
+#include <stdlib.h>
+#include <string.h>
+#include <sys/mman.h>
+#include <unistd.h>
+
+#include "ticketmoss.h"
+
+enum { AT_START = 1, LINE_READ_ONLY = 2, WORDS_READ_ONLY = 4 };
+enum { LINE_CHANGED = 1, BESIDE_CHANGED = 2, WORDS_CHANGED = 4 };
+enum { MOST_LINE = 4096, MOST_BUFFER = 4096, MARGIN = 64, CANARY = 0xC3 };
+#define MOST_WORDS TICKETMOSS_WORDS(TICKETMOSS_MOST_PLACES + 100)
+
+static void give_up(void) { _exit(3); }
+
+/* ---- a mapping between two guard pages, and a slice in it ---- */
+
+struct room {
+    uint8_t *low, *high; /* the bytes that may be touched */
+    uint8_t *at;         /* the slice */
+    size_t bytes;
+};
+
+static size_t page;
+
+static struct room reserve(size_t bytes) {
+    size_t inner = (bytes + page - 1) / page * page;
+    uint8_t *all = mmap(NULL, inner + 2 * page, PROT_NONE, MAP_PRIVATE | MAP_ANONYMOUS, -1, 0);
+    if (all == MAP_FAILED || mprotect(all + page, inner, PROT_READ | PROT_WRITE)) give_up();
+    struct room r = {all + page, all + page + inner, all + page, 0};
+    return r;
+}
+
+/* The bytes beside the slice that are watched: before it or behind it, where no guard page is. */
+static uint8_t *beside(const struct room *r, size_t *bytes) {
+    size_t left = (size_t)(r->high - r->low) - r->bytes;
+    *bytes = left < MARGIN ? left : MARGIN;
+    return r->at == r->low ? r->at + r->bytes : r->at - *bytes;
+}
+
+static void place(struct room *r, size_t bytes, int at_start) {
+    if (bytes > (size_t)(r->high - r->low)) give_up();
+    r->bytes = bytes;
+    r->at = at_start ? r->low : r->high - bytes;
+    size_t watched;
+    uint8_t *from = beside(r, &watched);
+    memset(from, CANARY, watched);
+}
+
+static int beside_changed(const struct room *r) {
+    size_t watched;
+    const uint8_t *from = beside(r, &watched);
+    for (size_t i = 0; i < watched; i++)
+        if (from[i] != CANARY) return BESIDE_CHANGED;
+    return 0;
+}
+
+/* Makes the pages of the slice read-only, or writable again. */
+static void protect(const struct room *r, int read_only) {
+    uint8_t *from = r->at - (size_t)(r->at - r->low) % page;
+    size_t bytes = ((size_t)(r->at + r->bytes - from) + page - 1) / page * page;
+    if (bytes && mprotect(from, bytes, read_only ? PROT_READ : PROT_READ | PROT_WRITE)) give_up();
+}
+
+static struct room words, line, buffer;
+static uint64_t *base, *before;
+static size_t count, base_count;
+static int mode;
+
+static uint64_t *state(void) { return (uint64_t *)(void *)words.at; }
+
+static void lend(size_t n) {
+    if (n > MOST_WORDS) give_up();
+    count = n;
+    place(&words, n * 8, mode & AT_START);
+}
+
+/* ---- commands in, replies out ---- */
+
+static uint8_t *in, *in_end, *out;
+static size_t in_room, out_used, out_room;
+
+static const uint8_t *take(size_t bytes) {
+    if ((size_t)(in_end - in) < bytes) give_up();
+    in += bytes;
+    return in - bytes;
+}
+
+#define TAKE(type, name) \
+    type name;           \
+    memcpy(&name, take(sizeof name), sizeof name)
+
+static void put(const void *from, size_t bytes) {
+    if (out_room - out_used < bytes) {
+        out_room = (out_used + bytes) * 2;
+        out = realloc(out, out_room);
+        if (!out) give_up();
+    }
+    memcpy(out + out_used, from, bytes);
+    out_used += bytes;
+}
+
+static int get_all(uint8_t *to, size_t bytes) {
+    while (bytes) {
+        ssize_t n = read(0, to, bytes);
+        if (n <= 0) return 0;
+        to += n;
+        bytes -= (size_t)n;
+    }
+    return 1;
+}
+
+static void send_reply(void) {
+    uint32_t bytes = (uint32_t)(out_used - 4);
+    memcpy(out, &bytes, 4);
+    for (size_t sent = 0; sent < out_used;) {
+        ssize_t n = write(1, out + sent, out_used - sent);
+        if (n <= 0) give_up();
+        sent += (size_t)n;
+    }
+}
+
+/* ---- wrong on purpose ---- */
+
+static int wrong;
+static volatile uint8_t sink;
+
+static void spoil(int64_t *result) {
+    switch (wrong) {
+    case 1: sink = line.at[line.bytes]; break;                                           /* reads a byte behind the line */
+    case 2: sink = words.at[-1]; break;                                                  /* reads a byte before the words */
+    case 3: sink = buffer.at[buffer.bytes]; break;                                       /* reads a byte behind the buffer */
+    case 4: if (*result > 0 && (size_t)*result < buffer.bytes) buffer.at[*result] ^= 1; break; /* writes past the answer line */
+    case 5: if (line.bytes) line.at[0] ^= 1; break;                                      /* writes to the line */
+    case 6: if (count > 1669) state()[count - 1] ^= 1; break;                            /* writes to a free word */
+    case 7: if (line.bytes && line.at[0] == 'O') for (;;) pause(); break;                /* never answers */
+    case 8: if (buffer.bytes < 32 && buffer.bytes) buffer.at[0] ^= 1; break;             /* writes to a short buffer */
+    case 9: if (*result == -22) *result = -21; break;                                    /* a wrong number returned */
+    }
+}
+
+/* ---- the calls ---- */
+
+static void put_answer(int64_t result, int flags, uint8_t pattern) {
+    size_t n = buffer.bytes;
+    size_t least = result > 0 ? (size_t)result : 0;
+    while (n > least && buffer.at[n - 1] == pattern) n--;
+    uint8_t f = (uint8_t)flags;
+    uint16_t bytes = (uint16_t)n;
+    put(&result, 8);
+    put(&f, 1);
+    put(&bytes, 2);
+    put(buffer.at, n);
+}
+
+static void lend_buffer(size_t size, uint8_t pattern) {
+    place(&buffer, size, mode & AT_START);
+    memset(buffer.at, pattern, size);
+}
+
+static void record(const uint8_t *bytes, size_t length, size_t size, uint8_t pattern) {
+    place(&line, length, mode & AT_START);
+    memcpy(line.at, bytes, length);
+    lend_buffer(size, pattern);
+    if (mode & LINE_READ_ONLY) protect(&line, 1);
+    int64_t result = ticketmoss_record(state(), count, line.at, length, buffer.at, size);
+    if (mode & LINE_READ_ONLY) protect(&line, 0);
+    if (wrong) spoil(&result);
+    int flags = memcmp(line.at, bytes, length) ? LINE_CHANGED : 0;
+    flags |= beside_changed(&words) | beside_changed(&line) | beside_changed(&buffer);
+    put_answer(result, flags, pattern);
+}
+
+static void closing(uint64_t which, size_t size, uint8_t pattern, int flags) {
+    lend_buffer(size, pattern);
+    if (mode & WORDS_READ_ONLY) protect(&words, 1);
+    int64_t result = ticketmoss_closing(state(), count, (size_t)which, buffer.at, size);
+    if (mode & WORDS_READ_ONLY) protect(&words, 0);
+    put_answer(result, flags | beside_changed(&words) | beside_changed(&buffer), pattern);
+}
+
+static int64_t try_state(void) {
+    if (mode & WORDS_READ_ONLY) protect(&words, 1);
+    int64_t result = ticketmoss_state(state(), count);
+    if (mode & WORDS_READ_ONLY) protect(&words, 0);
+    return result;
+}
+
+static void variant(uint8_t pattern) {
+    TAKE(uint32_t, cut);
+    TAKE(uint32_t, pokes);
+    if (cut > base_count) give_up();
+    lend(cut);
+    memcpy(before, base, cut * 8);
+    for (uint32_t i = 0; i < pokes; i++) {
+        TAKE(uint32_t, index);
+        TAKE(uint64_t, word);
+        if (index < cut) before[index] = word;
+    }
+    memcpy(words.at, before, cut * 8);
+
+    int64_t result = try_state();
+    int flags = memcmp(words.at, before, cut * 8) ? WORDS_CHANGED : 0;
+    put(&result, 8);
+
+    TAKE(uint16_t, length);
+    TAKE(uint16_t, size);
+    record(take(length), length, size, pattern);
+    uint32_t changed = 0;
+    size_t at = out_used;
+    put(&changed, 4);
+    for (uint32_t i = 0; i < cut; i++)
+        if (state()[i] != before[i]) {
+            before[i] = state()[i];
+            put(&i, 4);
+            put(&before[i], 8);
+            changed++;
+        }
+    memcpy(out + at, &changed, 4);
+
+    TAKE(uint64_t, which);
+    TAKE(uint16_t, closing_size);
+    at = out_used;
+    closing(which, closing_size, pattern, flags);
+    if (memcmp(words.at, before, cut * 8)) out[at + 8] |= WORDS_CHANGED;
+}
+
+static void obey(void) {
+    TAKE(uint8_t, letter);
+    switch (letter) {
+    case 'W': {
+        TAKE(uint8_t, m);
+        TAKE(uint32_t, n);
+        mode = m;
+        lend(n);
+        base_count = n;
+        memcpy(base, take((size_t)n * 8), (size_t)n * 8);
+        memcpy(words.at, base, (size_t)n * 8);
+        break;
+    }
+    case 'Z': {
+        TAKE(uint8_t, m);
+        TAKE(uint32_t, n);
+        TAKE(uint64_t, fill);
+        mode = m;
+        lend(n);
+        for (uint32_t i = 0; i < n; i++) state()[i] = fill;
+        int64_t result = ticketmoss_fresh(state(), count);
+        put(&result, 8);
+        break;
+    }
+    case 'S': {
+        memcpy(before, words.at, words.bytes);
+        int64_t result = try_state();
+        uint8_t flags = (uint8_t)beside_changed(&words);
+        if (memcmp(before, words.at, words.bytes)) flags |= WORDS_CHANGED;
+        put(&result, 8);
+        put(&flags, 1);
+        break;
+    }
+    case 'R': {
+        TAKE(uint8_t, pattern);
+        TAKE(uint32_t, n);
+        while (n--) {
+            TAKE(uint16_t, length);
+            TAKE(uint16_t, size);
+            record(take(length), length, size, pattern);
+        }
+        break;
+    }
+    case 'E': {
+        TAKE(uint8_t, pattern);
+        TAKE(uint32_t, n);
+        while (n--) {
+            TAKE(uint64_t, which);
+            TAKE(uint16_t, size);
+            closing(which, size, pattern, 0);
+        }
+        break;
+    }
+    case 'G': put(words.at, words.bytes); break;
+    case 'V': {
+        TAKE(uint8_t, pattern);
+        TAKE(uint32_t, n);
+        while (n--) variant(pattern);
+        break;
+    }
+    case 'N': {
+        TAKE(uint32_t, n);
+        while (n--) {
+            TAKE(uint8_t, which);
+            TAKE(uint64_t, number);
+            uint64_t result = which ? ticketmoss_places((size_t)number) : ticketmoss_words((size_t)number);
+            put(&result, 8);
+        }
+        break;
+    }
+    default: give_up();
+    }
+}
+
+int main(int arguments, char **argument) {
+    if (arguments > 1) wrong = atoi(argument[1]);
+    page = (size_t)sysconf(_SC_PAGESIZE);
+    words = reserve(MOST_WORDS * 8);
+    line = reserve(MOST_LINE);
+    buffer = reserve(MOST_BUFFER);
+    base = malloc(MOST_WORDS * 8);
+    before = malloc(MOST_WORDS * 8);
+    if (!base || !before) give_up();
+    uint8_t *command = NULL;
+    uint32_t bytes;
+    while (get_all((uint8_t *)&bytes, 4)) {
+        if (bytes > in_room) {
+            in_room = bytes;
+            command = realloc(command, in_room);
+            if (!command) give_up();
+        }
+        if (!get_all(command, bytes)) give_up();
+        in = command;
+        in_end = command + bytes;
+        out_used = 0;
+        put("\0\0\0\0", 4);
+        obey();
+        send_reply();
+    }
+    return 0;
+}
