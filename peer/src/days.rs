@@ -14,6 +14,7 @@ use std::collections::VecDeque;
 
 use crate::gate::{Answer, Gate};
 use book::Book;
+use damage::damage;
 use moves::{any_group, any_mpid, propose, Line};
 use rng::Rng;
 use style::{Style, STYLES};
@@ -166,6 +167,9 @@ impl Maker {
             if rng.chance(4) {
                 let lines = propose(&self.book, &self.style, rng);
                 self.queue.extend(lines.into_iter().filter(|line| line != b"O\n"));
+            }
+            if rng.chance(8 + self.style.damage / 2) {
+                self.queue.push_back(damage(rng, &line));
             }
             self.queue.push_back(line);
         }

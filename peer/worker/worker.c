@@ -154,15 +154,37 @@ static volatile uint8_t sink;
 
 static void spoil(int64_t *result) {
     switch (wrong) {
-    case 1: sink = line.at[line.bytes]; break;                                           /* reads a byte behind the line */
-    case 2: sink = words.at[-1]; break;                                                  /* reads a byte before the words */
-    case 3: sink = buffer.at[buffer.bytes]; break;                                       /* reads a byte behind the buffer */
-    case 4: if (*result > 0 && (size_t)*result < buffer.bytes) buffer.at[*result] ^= 1; break; /* writes past the answer line */
-    case 5: if (line.bytes) line.at[0] ^= 1; break;                                      /* writes to the line */
-    case 6: if (count > 1669) state()[count - 1] ^= 1; break;                            /* writes to a free word */
-    case 7: if (line.bytes && line.at[0] == 'O') for (;;) pause(); break;                /* never answers */
-    case 8: if (buffer.bytes < 32 && buffer.bytes) buffer.at[0] ^= 1; break;             /* writes to a short buffer */
-    case 9: if (*result == -22) *result = -21; break;                                    /* a wrong number returned */
+    case 1: /* reads a byte behind the line */
+        sink = line.at[line.bytes];
+        break;
+    case 2: /* reads a byte before the words */
+        sink = words.at[-1];
+        break;
+    case 3: /* reads a byte behind the buffer */
+        sink = buffer.at[buffer.bytes];
+        break;
+    case 4: /* writes past the answer line */
+        if (*result > 0 && (size_t)*result < buffer.bytes) buffer.at[*result] ^= 1;
+        break;
+    case 5: /* writes to the line */
+        if (line.bytes) line.at[0] ^= 1;
+        break;
+    case 6: /* writes to a free word */
+        if (count > TICKETMOSS_LEAST_WORDS) state()[count - 1] ^= 1;
+        break;
+    case 7: /* never answers */
+        if (line.bytes && line.at[0] == 'O')
+            for (;;) pause();
+        break;
+    case 8: /* writes to a short buffer */
+        if (buffer.bytes && buffer.bytes < TICKETMOSS_ANSWER_BYTES) buffer.at[0] ^= 1;
+        break;
+    case 9: /* returns a wrong number */
+        if (*result == -TICKETMOSS_BAD_STATE) *result = -TICKETMOSS_SHORT_BUFFER;
+        break;
+    case 10: /* reads a byte behind the line of an F, with two places taken */
+        if (count > 4 && state()[4] >= 2 && line.bytes && line.at[0] == 'F') sink = line.at[line.bytes];
+        break;
     }
 }
 

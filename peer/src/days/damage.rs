@@ -1,6 +1,7 @@
 //! Lines that break a form, or nearly do.
 
 use super::rng::Rng;
+use super::{CEILING, MOST_NUMBER, MOST_PRICE, MOST_SIZE};
 
 /// Numbers on both sides of the edges of every field, and some that wrap in 32 or 64 bits.
 const EDGES: [&str; 30] = [
@@ -40,6 +41,54 @@ const EDGES: [&str; 30] = [
 const BYTES: [u8; 20] =
     [0, 1, 9, 10, 11, 12, 13, 31, 32, 33, 47, 58, 64, 91, 96, 124, 126, 127, 128, 255];
 
+/// The number fields of a kind, from the second field on: symbols and notices (n), sizes (s),
+/// prices (p), quotes (q), limits (l), no number (-).
+fn number_fields(kind: Option<&u8>) -> &'static [u8] {
+    match kind {
+        Some(b'G') => b"-lllllls-",
+        Some(b'S') => b"n",
+        Some(b'N') => b"--n-sp",
+        Some(b'M') => b"---sp",
+        Some(b'Q') => b"nnqq",
+        Some(b'F') => b"n--sp",
+        Some(b'D') => b"n--s",
+        Some(b'H') => b"n--",
+        _ => b"",
+    }
+}
+
+/// A number field of the line at the edge of its own range, or one past it.
+fn own_edge(rng: &mut Rng, fields: &mut [Vec<u8>]) {
+    let forms = number_fields(fields[0].first());
+    // Each form about as often.
+    let form = rng.pick(b"nspql");
+    let numbers: Vec<usize> = (0..forms.len()).filter(|&i| forms[i] == form).collect();
+    if numbers.is_empty() {
+        return own_letter(rng, fields);
+    }
+    let i = rng.pick(&numbers);
+    let (low, high) = match forms[i] {
+        b'n' => (1, MOST_NUMBER),
+        b's' => (1, MOST_SIZE),
+        b'p' => (1, MOST_PRICE),
+        b'q' => (0, MOST_PRICE),
+        _ => (0, CEILING),
+    };
+    let edge = rng.pick(&[low, high, high + 1, high + 1, 0]);
+    if let Some(field) = fields.get_mut(i + 1) {
+        *field = edge.to_string().into_bytes();
+    }
+}
+
+/// Another letter in a field of one letter: sides, Y and N, or small ones.
+fn own_letter(rng: &mut Rng, fields: &mut [Vec<u8>]) {
+    for field in fields.iter_mut().skip(1) {
+        if field.len() == 1 && field[0].is_ascii_uppercase() {
+            field[0] = rng.pick(b"BSHEYNbsheynCRX0");
+        }
+    }
+}
+
 /// A line made wrong in one way (some ways leave it right).
 pub fn damage(rng: &mut Rng, line: &[u8]) -> Vec<u8> {
     let text = line.strip_suffix(b"\n").unwrap_or(line);
@@ -48,7 +97,7 @@ pub fn damage(rng: &mut Rng, line: &[u8]) -> Vec<u8> {
     let numbers: Vec<usize> =
         (1..fields.len()).filter(|&i| fields[i].iter().all(u8::is_ascii_digit)).collect();
     let number = numbers.get(rng.index(numbers.len())).copied();
-    match rng.below(30) {
+    match rng.below(40) {
         // Tabs.
         0 => return remove_byte(rng, line, b'\t'),
         1 => fields.insert(at, Vec::new()),
@@ -131,7 +180,8 @@ pub fn damage(rng: &mut Rng, line: &[u8]) -> Vec<u8> {
             bytes.insert(rng.index(line.len() + 1), rng.draw() as u8);
             return bytes;
         }
-        _ => return noise(rng),
+        29 => return noise(rng),
+        _ => own_edge(rng, &mut fields),
     }
     let mut bytes = fields.join(&b'\t');
     bytes.push(b'\n');

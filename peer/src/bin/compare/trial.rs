@@ -27,7 +27,7 @@ fn peer_side() -> Vec<(Wrong, String)> {
 }
 
 /// What is wrong on the worker's side, by its argument.
-const WORKER_SIDE: [&str; 9] = [
+const WORKER_SIDE: [&str; 10] = [
     "a byte behind the line is read",
     "a byte before the words is read",
     "a byte behind the buffer is read",
@@ -37,6 +37,7 @@ const WORKER_SIDE: [&str; 9] = [
     "no answer to an O",
     "a short buffer is written to",
     "22 returned as 21",
+    "a byte behind the line of an F is read, with two places taken",
 ];
 
 /// Tries each; fails if one is not noticed. The smallest inputs are written to a file, if one
@@ -67,7 +68,10 @@ pub fn all(program: &Program, seed: u64, to: Option<&Path>) -> Result<ExitCode, 
 
 /// How small an input showed it, and that input.
 fn one(settings: &Settings) -> Option<(String, String)> {
-    let work = Work::plan(settings.seed, 200_000, 4_000);
+    let work = match settings.wrong {
+        Wrong::Sums => Work::plan(settings.seed, 0, 20_000),
+        _ => Work::plan(settings.seed, 200_000, 0),
+    };
     let outcome = run::run(settings, &work).ok()?;
     let found = outcome.found?;
     let least = run::shrink(settings, &found);

@@ -236,7 +236,7 @@ impl Answered {
     /// For people.
     pub fn text(&self) -> String {
         let mut text = match self.result {
-            1.. => format!("{:?}", self.bytes.escape_ascii().to_string()),
+            1.. => format!("\"{}\"", self.bytes.escape_ascii()),
             result => format!("{result}"),
         };
         let written = usize::try_from(self.result).unwrap_or(0);
