@@ -16,7 +16,7 @@ enum-known-count : tie.Need-enum-known-count
 enum-known-count c = search needs
 
 cast-result : tie.Need-cast-result
-cast-result c = omega (arith, record-fits (c .before .before .before .before .before .before .before .before .before .before .before .before .before .args .mem .now) (c .before .before .before .before .before .before .before .before .before .before .before .before .before .args .line .now) (c .before .before .before .before .before .before .before .before .before .before .before .before .before .args .to .now) _ (c .before .count .given .1) (c .before .before .before .before .before .before .before .«record» .ensures))
+cast-result c = let a = c .before .before .before .before .before .before .before .before .before .before .before .before .before .args in let e = c .before .before .before .before .before .before .before .«record» .ensures in omega (arith, record-fits (a .mem .now) (a .line .now) (a .to .now) _ (c .before .count .given .1) e)
 
 enum-told : tie.Need-enum-told
 enum-told c = search needs
@@ -31,7 +31,7 @@ same-length-2 : tie.Need-same-length-2
 same-length-2 c = search needs
 
 returns : tie.Need-returns
-returns c = let t = record-told (c .before .before .before .before .before .before .before .before .before .before .before .before .before .args .mem .now) (c .before .before .before .before .before .before .before .before .before .before .before .before .before .args .line .now) (c .before .before .before .before .before .before .before .before .before .before .before .before .before .args .to .now) (Answered.Line _) (c .before .count .given .1) (c .before .before .before .before .before .before .before .«record» .ensures) in (toZ-pos w64 _ (record-fits (c .before .before .before .before .before .before .before .before .before .before .before .before .before .args .mem .now) (c .before .before .before .before .before .before .before .before .before .before .before .before .before .args .line .now) (c .before .before .before .before .before .before .before .before .before .before .before .before .before .args .to .now) _ (c .before .count .given .1) (c .before .before .before .before .before .before .before .«record» .ensures)) ∙ t .0, t .1)
+returns c = let a = c .before .before .before .before .before .before .before .before .before .before .before .before .before .args in let e = c .before .before .before .before .before .before .before .«record» .ensures in let t = record-told (a .mem .now) (a .line .now) (a .to .now) (Answered.Line _) (c .before .count .given .1) e in (toZ-pos w64 _ (record-fits (a .mem .now) (a .line .now) (a .to .now) _ (c .before .count .given .1) e) ∙ t .0, t .1)
 
 same-length-3 : tie.Need-same-length-3
 same-length-3 c = search needs
@@ -40,7 +40,7 @@ same-length-4 : tie.Need-same-length-4
 same-length-4 c = search needs
 
 returns-2 : tie.Need-returns-2
-returns-2 c = record-told (c .before .before .before .before .before .before .before .before .before .before .before .before .args .mem .now) (c .before .before .before .before .before .before .before .before .before .before .before .before .args .line .now) (c .before .before .before .before .before .before .before .before .before .before .before .before .args .to .now) Answered.ShortBuffer (c .enum-told .given .1) (c .before .before .before .before .before .before .«record» .ensures)
+returns-2 c = let a = c .before .before .before .before .before .before .before .before .before .before .before .before .args in record-told (a .mem .now) (a .line .now) (a .to .now) Answered.ShortBuffer (c .enum-told .given .1) (c .before .before .before .before .before .before .«record» .ensures)
 
 same-length-5 : tie.Need-same-length-5
 same-length-5 c = search needs
@@ -49,7 +49,7 @@ same-length-6 : tie.Need-same-length-6
 same-length-6 c = search needs
 
 returns-3 : tie.Need-returns-3
-returns-3 c = record-told (c .before .before .before .before .before .before .before .before .before .before .before .before .args .mem .now) (c .before .before .before .before .before .before .before .before .before .before .before .before .args .line .now) (c .before .before .before .before .before .before .before .before .before .before .before .before .args .to .now) Answered.BadState (c .enum-told2 .given .1) (c .before .before .before .before .before .before .«record» .ensures)
+returns-3 c = let a = c .before .before .before .before .before .before .before .before .before .before .before .before .args in record-told (a .mem .now) (a .line .now) (a .to .now) Answered.BadState (c .enum-told2 .given .1) (c .before .before .before .before .before .before .«record» .ensures)
 
 pub ticketmoss-record-spec : {M : Type 1} → statement M
 ticketmoss-record-spec =
