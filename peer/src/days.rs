@@ -6,7 +6,9 @@
 mod aims;
 pub mod book;
 pub mod damage;
+mod hand;
 pub mod moves;
+pub mod pieces;
 pub mod rng;
 pub mod style;
 
@@ -15,7 +17,8 @@ use std::collections::VecDeque;
 use crate::gate::{Answer, Gate};
 use book::Book;
 use damage::damage;
-use moves::{any_group, any_mpid, propose, Line};
+use moves::propose;
+use pieces::{any_group, any_mpid, Line};
 use rng::Rng;
 use style::{Style, STYLES};
 
@@ -61,7 +64,7 @@ impl Plan {
             2 => rng.between(2, 6),
             3 => rng.between(7, 60),
             4 => 256,
-            _ => rng.between(280, 330),
+            _ => rng.between(275, 300),
         };
         let (room, lines) = match rng.weighted(&[30, 30, 30, 50, 500, 170, 180, 10]) {
             0 => (0, rng.between(10, 80)),
@@ -154,9 +157,10 @@ impl Maker {
         let (first, stride) =
             rng.pick(&[(1, 1), (7, 1), (4_294_966_900, 1), (5, 256), (3, 65_536)]);
         for i in 0..symbols as u64 {
-            let id = match rng.chance(85) {
-                true => first + i * stride,
-                false => rng.pick(&[1, 2, first, MOST_NUMBER, 1 + rng.clone().below(MOST_NUMBER)]),
+            let id = match rng.below(20) {
+                0 => rng.pick(&[1, 2, first, MOST_NUMBER]),
+                1 => rng.between(1, MOST_NUMBER),
+                _ => first + i * stride,
             };
             lines.push(Line::new(b'S').number(id.clamp(1, MOST_NUMBER)).end());
         }
@@ -205,4 +209,30 @@ pub fn lines(plan: Plan) -> Vec<Vec<u8>> {
         maker.step(&mut out).map(|(line, _)| line)
     })
     .collect()
+}
+
+#[cfg(test)]
+mod tests {
+    use super::*;
+
+    #[test]
+    fn a_seed_and_an_index_give_one_day() {
+        let day = |seed, index| lines(Plan::new(seed, index));
+        assert_eq!(day(1, 5), day(1, 5));
+        assert_ne!(day(1, 5), day(2, 5));
+        assert_ne!(day(1, 5), day(1, 6));
+    }
+
+    #[test]
+    fn days_meet_every_number() {
+        let mut met = [0; 21];
+        for index in 0..200 {
+            let mut maker = Maker::new(Plan::new(1, index));
+            let mut out = Vec::new();
+            while let Some((_, answer)) = maker.step(&mut out) {
+                met[usize::from(answer.number)] += 1;
+            }
+        }
+        assert!(met.iter().all(|&times| times > 20), "{met:?}");
+    }
 }

@@ -2,7 +2,8 @@
 //! the six metrics, the ceiling.
 
 use super::book::{Group, Symbol};
-use super::moves::{on_tick, tick, Hand, TOP_PRICE};
+use super::hand::Hand;
+use super::pieces::{on_tick, tick, TOP_PRICE};
 use super::{CEILING, MOST_PRICE, MOST_SIZE};
 
 /// The rows of price protection: first price, percent, dollar part.

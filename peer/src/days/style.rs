@@ -45,25 +45,12 @@ impl Act {
     }
 }
 
+#[rustfmt::skip]
 const ACTS: [Act; 19] = [
-    Act::New,
-    Act::Change,
-    Act::Cancel,
-    Act::Block,
-    Act::Unblock,
-    Act::Quote,
-    Act::Fill,
-    Act::Reduce,
-    Act::CancelRefused,
-    Act::Retry,
-    Act::Altered,
-    Act::Elsewhere,
-    Act::Echo,
-    Act::Protect,
-    Act::AimNew,
-    Act::AimChange,
-    Act::AimFill,
-    Act::AimReduce,
+    Act::New, Act::Change, Act::Cancel, Act::Block, Act::Unblock,
+    Act::Quote, Act::Fill, Act::Reduce, Act::CancelRefused,
+    Act::Retry, Act::Altered, Act::Elsewhere, Act::Echo,
+    Act::Protect, Act::AimNew, Act::AimChange, Act::AimFill, Act::AimReduce,
     Act::Setup,
 ];
 
@@ -82,24 +69,49 @@ pub struct Style {
     limits: [u64; 7],
 }
 
-/// The styles of days.
+const fn style(name: &'static str, damage: u64, weights: [u64; 19], limits: [u64; 7]) -> Style {
+    Style { name, damage, grid: false, large: false, weights, limits }
+}
+
+/// The styles of days. Weights are in the order of `ACTS` (requests, notices, what is known,
+/// aims, setup), those of limits in the order of `any_group`.
 #[rustfmt::skip]
 pub const STYLES: [Style; 8] = [
-    //                                                                      N   M  C  B  R  Q   F  D  H  again     Prot aims         set   limits
-    Style { name: "usual",   damage: 3,  grid: false, large: false, weights: [24, 10, 7, 1, 3, 6, 10, 5, 4, 6, 5, 2, 2, 6, 5, 3, 4, 2, 1], limits: [12, 3, 1, 5, 1, 1, 2] },
-    Style { name: "retries", damage: 1,  grid: false, large: false, weights: [20, 8, 5, 2, 3, 3, 6, 3, 2, 20, 18, 8, 8, 2, 2, 1, 1, 1, 1], limits: [12, 2, 1, 5, 1, 1, 1] },
-    Style { name: "notices", damage: 1,  grid: false, large: false, weights: [22, 6, 10, 1, 4, 10, 20, 12, 12, 2, 2, 1, 3, 2, 2, 1, 4, 3, 0], limits: [14, 2, 1, 4, 0, 1, 2] },
-    Style { name: "prices",  damage: 0,  grid: false, large: false, weights: [8, 4, 1, 0, 1, 4, 2, 1, 1, 1, 1, 0, 0, 60, 2, 2, 1, 0, 0], limits: [9, 0, 0, 0, 0, 0, 1] },
-    Style { name: "limits",  damage: 0,  grid: false, large: false, weights: [10, 4, 2, 1, 6, 2, 6, 2, 1, 2, 1, 0, 1, 1, 26, 14, 18, 8, 0], limits: [0, 6, 4, 6, 2, 3, 3] },
-    Style { name: "grid",    damage: 0,  grid: true,  large: false, weights: [30, 12, 4, 1, 7, 2, 14, 9, 2, 2, 1, 1, 1, 0, 4, 3, 4, 6, 0], limits: [1, 10, 6, 1, 1, 0, 0] },
-    Style { name: "ceiling", damage: 0,  grid: false, large: true,  weights: [24, 8, 2, 1, 6, 2, 24, 4, 1, 2, 1, 0, 1, 0, 6, 4, 22, 3, 0], limits: [12, 0, 0, 0, 0, 1, 5] },
-    Style { name: "damage",  damage: 45, grid: false, large: false, weights: [24, 10, 7, 3, 3, 6, 10, 5, 4, 4, 4, 2, 6, 2, 2, 1, 2, 1, 3], limits: [10, 3, 1, 4, 1, 1, 1] },
+    style("usual", 3,
+        [24, 10, 7, 1, 3,  6, 10, 5, 4,  6, 5, 2, 2,  6, 5, 3, 4, 2,  1],
+        [12, 3, 1, 5, 1, 1, 2]),
+    style("retries", 1,
+        [20, 8, 5, 2, 3,  3, 6, 3, 2,  20, 18, 8, 8,  2, 2, 1, 1, 1,  1],
+        [12, 2, 1, 5, 1, 1, 1]),
+    style("notices", 1,
+        [22, 6, 10, 1, 4,  10, 20, 12, 12,  2, 2, 1, 3,  2, 2, 1, 4, 3,  0],
+        [14, 2, 1, 4, 0, 1, 2]),
+    style("prices", 0,
+        [8, 4, 1, 0, 1,  4, 2, 1, 1,  1, 1, 0, 0,  60, 2, 2, 1, 0,  0],
+        [9, 0, 0, 0, 0, 0, 1]),
+    style("limits", 0,
+        [10, 4, 2, 1, 6,  2, 6, 2, 1,  2, 1, 0, 1,  1, 26, 14, 18, 8,  0],
+        [0, 6, 4, 6, 2, 3, 3]),
+    Style { grid: true, ..style("grid", 0,
+        [30, 12, 4, 1, 7,  2, 14, 9, 2,  2, 1, 1, 1,  0, 4, 3, 4, 6,  0],
+        [1, 10, 6, 1, 1, 0, 0]) },
+    Style { large: true, ..style("ceiling", 0,
+        [24, 8, 2, 1, 6,  2, 24, 4, 1,  2, 1, 0, 1,  0, 6, 4, 22, 3,  0],
+        [12, 0, 0, 0, 0, 1, 5]) },
+    style("damage", 45,
+        [24, 10, 7, 3, 3,  6, 10, 5, 4,  4, 4, 2, 6,  2, 2, 1, 2, 1,  3],
+        [10, 3, 1, 4, 1, 1, 1]),
 ];
 
 impl Style {
     /// What the next draw is about.
     pub fn act(&self, rng: &mut Rng) -> Act {
         ACTS[rng.weighted(&self.weights)]
+    }
+
+    /// Each act as often.
+    pub fn any_act(rng: &mut Rng) -> Act {
+        rng.pick(&ACTS)
     }
 
     /// What kind of limits a group gets.

@@ -56,7 +56,8 @@ pub fn make(seed: u64, index: u64, most: usize) -> Day {
     if rng.chance(15) {
         mode |= LINE_READ_ONLY;
     }
-    let fill = rng.pick(&[0, u64::MAX, 1, rng.clone().draw()]);
+    let any = rng.draw();
+    let fill = rng.pick(&[0, u64::MAX, 1, any]);
     let pattern = rng.pick(b"\xAA\x00\xFF\n\t0\x55");
     Day { words, fill, mode, pattern, every, steps }
 }

@@ -12,6 +12,7 @@
 
 #![forbid(unsafe_code)]
 
+mod alter;
 mod count;
 mod day;
 mod lengths;

@@ -1,7 +1,7 @@
 //! Where each thing stands in the lent words (docs/STATE.md), by regions of rows of fields.
 
 use peer::days::book::{Book, Group, Order, Place, Symbol};
-use peer::days::moves::{group_line, Line};
+use peer::days::pieces::{group_line, Line};
 use peer::days::{MOST_PRICE, MOST_SIZE};
 use peer::memory::{room, LEAST_WORDS};
 
@@ -187,4 +187,32 @@ pub fn book(words: &[u64]) -> Book {
         book.add_place(Place { mpid, id, line: line.end(), order });
     }
     book
+}
+
+#[cfg(test)]
+mod tests {
+    use super::*;
+
+    #[test]
+    fn every_word_has_one_name() {
+        let words = LEAST_WORDS + 17 * 3 + 5;
+        let mut names: Vec<String> = (0..words - 5).map(|i| name(i, words)).collect();
+        names.sort();
+        names.dedup();
+        assert_eq!(names.len(), words - 5);
+        assert_eq!(name(0, words), "head: open");
+        assert_eq!(name(900, words), "group 63: open sells");
+        assert_eq!(name(1668, words), "symbol 255: offer");
+        assert_eq!(name(1669 + 4 * 3, words), "request 0: kind");
+        assert_eq!(name(words - 6, words), "order 2: cancel asked");
+        assert_eq!(name(words - 1, words), "past the last place");
+    }
+
+    #[test]
+    fn rows_stay_when_the_length_changes() {
+        let words: Vec<u64> = (0..LEAST_WORDS as u64 + 17 * 3).collect();
+        let shorter = resize(&words, LEAST_WORDS + 17 * 2);
+        assert_eq!(shorter[..LEAST_WORDS], words[..LEAST_WORDS]);
+        assert_eq!(shorter[Region::Order.at(2, 1, 3)], words[Region::Order.at(3, 1, 3)]);
+    }
 }

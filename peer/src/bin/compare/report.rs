@@ -25,7 +25,7 @@ fn sides(library: &Result<String, String>, peer: &str) -> String {
 /// A day, line by line with what each side answered.
 pub fn day(day: &Day, first: &str, program: &Program, wrong: Wrong) -> String {
     let (lines, words, room) = (day.steps.len(), day.words, memory::room(day.words));
-    let mut text = format!("A day on which the two sides differ.\n{first}\n\n");
+    let mut text = format!("A day on which the two sides differ. First seen as\n{first}\n\n");
     text += &format!("{lines} lines, {words} words (room for {room} places), ");
     text += &format!("all {} before the fresh state. {}\n", day.fill, lent(day.mode));
     let Ok(mut worker) = Worker::start(program) else {
@@ -67,8 +67,12 @@ fn day_end(day: &Day, peer: &Peer, worker: &mut Worker) -> Result<String, String
     worker.send(day::closings(day.pattern, &asked));
     let mut reply = worker.reply()?;
     for (place, size, theirs) in &asked {
-        text += &format!("closing line {place} (buffer of {size})\n");
-        text += &sides(&Ok(reply.answer().text()), &theirs.text());
+        let ours = reply.answer();
+        // What both refuse is left out.
+        if theirs.result > 0 || ours != *theirs {
+            text += &format!("closing line {place} (buffer of {size})\n");
+            text += &sides(&Ok(ours.text()), &theirs.text());
+        }
     }
     Ok(text)
 }
@@ -81,7 +85,9 @@ pub fn memory(batch: &Batch, program: &Program, wrong: Wrong) -> String {
     let mut text = "A memory of which the two sides think differently.\n\n".to_string();
     text += &format!("{} words (room for {} places). ", words.len(), memory::room(words.len()));
     text += &lent(batch.mode);
-    text += &format!("State rule that is broken, by the peer: {rule}.\nAll words are 0 but\n");
+    text += &format!("State rule that is broken, by the peer: {rule}.\n");
+    text +=
+        &format!("All words are 0 but {} of them:\n", words.iter().filter(|w| **w != 0).count());
     for (i, word) in words.iter().enumerate().filter(|(_, word)| **word != 0) {
         let bytes = word.to_le_bytes();
         let end = bytes.iter().rposition(|&b| b != 0).map_or(0, |i| i + 1);
@@ -98,10 +104,15 @@ pub fn memory(batch: &Batch, program: &Program, wrong: Wrong) -> String {
         worker.reply()?;
         worker.reply().map(|mut reply| Judged::read(&mut reply))
     });
+    if let Err(stopped) = &ours {
+        text += &format!("   library: {stopped}\n");
+    }
     let count = words.len();
     let mut part = |name: &str, of: &dyn Fn(&Judged) -> String| {
-        let library = ours.as_ref().map(of).map_err(Clone::clone);
-        text += &format!("{name}\n{}", sides(&library, &of(&theirs)));
+        text += &match &ours {
+            Ok(ours) => format!("{name}\n{}", sides(&Ok(of(ours)), &of(&theirs))),
+            Err(_) => format!("{name}\n      peer: {}\n", of(&theirs)),
+        };
     };
     part("state", &|j| j.state.to_string());
     part("record", &|j| j.record.text());

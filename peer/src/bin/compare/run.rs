@@ -131,6 +131,7 @@ struct Shared {
 
 /// Runs until all is compared or something differs.
 pub fn run(settings: &Settings, work: &Work) -> Result<Outcome, String> {
+    Worker::try_start(&settings.program)?;
     let shared = Shared::default();
     let mut outcome = Outcome { counts: Counts::default(), tally: Tally::default(), found: None };
     thread::scope(|scope| {

@@ -3,6 +3,7 @@
 use peer::gate::Gate;
 use peer::memory;
 
+use crate::alter::book_order;
 use crate::count::Counts;
 use crate::day::{self, Day, Step};
 use crate::map::{self, Region};
@@ -101,7 +102,17 @@ impl Shrinker<'_> {
         };
         let all = (0..least.steps.len()).collect();
         let kept = fewest(all, |kept| self.day_fails(&with(kept)).is_some());
-        self.smaller_room(with(&kept))
+        self.plainer(self.smaller_room(with(&kept)))
+    }
+
+    /// Zeros before the fresh state, usual buffers.
+    fn plainer(&self, day: Day) -> Day {
+        let mut plain = Day { fill: 0, ..day.clone() };
+        plain.steps.iter_mut().for_each(|step| step.size = 32);
+        match self.day_fails(&plain) {
+            Some(_) => plain,
+            None => day,
+        }
     }
 
     fn smaller_room(&self, day: Day) -> Day {
@@ -147,6 +158,15 @@ impl Shrinker<'_> {
         if self.batch_fails(&tried) {
             least = tried;
         }
+        // A shorter line.
+        let frame = least.clone();
+        let with_line = |line: &[u8]| {
+            let mut tried = frame.clone();
+            tried.variants[0].line = line.to_vec();
+            tried
+        };
+        let line = frame.variants[0].line.clone();
+        least = with_line(&fewest(line, |line| self.batch_fails(&with_line(line))));
         // Fewer rows.
         for region in [Region::Key, Region::Symbol, Region::Group] {
             if least.base.len() < memory::LEAST_WORDS {
@@ -193,7 +213,7 @@ fn keep_rows(words: &[u64], region: Region, rows: &[usize]) -> Vec<u64> {
     };
     if count == 4 {
         for place in (0..Region::Key.used(words)).filter(|place| !rows.contains(place)) {
-            crate::states::book_order(&mut kept, place, false);
+            book_order(&mut kept, place, false);
         }
     }
     for region in regions {
@@ -209,4 +229,17 @@ fn keep_rows(words: &[u64], region: Region, rows: &[usize]) -> Vec<u64> {
     let missing = region.used(words) - rows.len();
     kept[count] = words[count].wrapping_sub(missing as u64);
     kept
+}
+
+#[cfg(test)]
+mod tests {
+    use super::fewest;
+
+    #[test]
+    fn only_what_is_needed_is_left() {
+        let needed = [3, 50, 97];
+        let fails = |items: &[u32]| needed.iter().all(|n| items.contains(n));
+        assert_eq!(fewest((0..100).collect(), fails), needed);
+        assert_eq!(fewest((0..100).collect(), |_: &[u32]| true), []);
+    }
 }

@@ -57,6 +57,13 @@ impl Worker {
         Ok(Worker { child, to, from, patience: program.patience })
     }
 
+    /// Whether a worker can be started and answers at all.
+    pub fn try_start(program: &Program) -> Result<(), String> {
+        let mut worker = Worker::start(program).map_err(|error| format!("no worker: {error}"))?;
+        worker.send(Command::new(b'N').u32(0));
+        worker.reply().map(|_| ()).map_err(|text| format!("no worker: {text}"))
+    }
+
     /// Sends a command; what comes of it is seen in the reply.
     pub fn send(&self, command: Command) {
         let _ = self.to.send(command.finish());
