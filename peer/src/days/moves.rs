@@ -121,10 +121,6 @@ impl Hand<'_> {
         let most = self.book.group(mpid).map_or(100, |g| g.most_size);
         let any = self.size(most);
         let size = match order {
-            // Both too large and not above done; only a lent state comes to it.
-            Some(order) if order.done > most && self.rng.chance(50) => {
-                self.rng.between(most + 1, order.done)
-            }
             Some(order) => match self.rng.below(8) {
                 0 => order.size,
                 1 => order.done + 1,

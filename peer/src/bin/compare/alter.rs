@@ -232,7 +232,7 @@ fn figures(rng: &mut Rng, words: &mut [u64]) -> Option<usize> {
     // A maximum size below what is done, as no day comes to.
     let done = words[order + 2];
     let owner = words[Region::Key.at(room, place, 0)];
-    if done > 1 && done <= MOST_SIZE && rng.chance(30) {
+    if done > 1 && done <= MOST_SIZE && rng.chance(40) {
         for row in 0..Region::Group.used(words) {
             let g = group(words, row);
             if g[0] == owner {

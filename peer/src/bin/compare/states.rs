@@ -1,7 +1,8 @@
 //! Memories to compare: good ones out of drawn days, broken ones, odd ones, random ones.
 
-use peer::days::book::Book;
+use peer::days::book::{Book, Place};
 use peer::days::moves::propose;
+use peer::days::pieces::Line;
 use peer::days::rng::Rng;
 use peer::days::style::STYLES;
 use peer::days::{Maker, Plan, CEILING, MOST_NUMBER};
@@ -175,7 +176,10 @@ fn variant(rng: &mut Rng, base: &[u64], kind: Kind, i: usize, met: &mut [u64; 32
             book.places = vec![place];
         }
     }
-    let line = line(rng, &words[..count], &book, met);
+    let line = match book.places.first().and_then(|place| twice_wrong(rng, place, &book)) {
+        Some(line) if rng.chance(50) => line,
+        _ => line(rng, &words[..count], &book, met),
+    };
     let groups = book.groups.len() as u64;
     Variant {
         count,
@@ -189,6 +193,15 @@ fn variant(rng: &mut Rng, base: &[u64], kind: Kind, i: usize, met: &mut [u64; 32
         },
         closing_size: if rng.chance(3) { 95 } else { rng.pick(&[96, 96, 97, 128]) },
     }
+}
+
+/// A change to a size that is too large and not above done; no day comes to such an order.
+fn twice_wrong(rng: &mut Rng, place: &Place, book: &Book) -> Option<Vec<u8>> {
+    let order = place.order.as_ref().filter(|order| order.remaining() > 0)?;
+    let most = book.group(place.mpid)?.most_size;
+    let size = (order.done > most).then(|| rng.between(most + 1, order.done))?;
+    let line = Line::new(b'M').text(b"=").text(&place.mpid).text(&place.id);
+    Some(line.number(size).number(order.price).end())
 }
 
 /// A line for these words; of a few, the one whose number was met least.
