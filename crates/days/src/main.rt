@@ -186,11 +186,17 @@ fn run_day(name: &[u8], day_file: &[u8], expected_file: &[u8]) {
     }
 }
 
-fn main() {
+// Document 01's day, days at its edges, and a day of two desks.
+fn run_told() {
     run_day(b"document-01", b"document-01.in", b"document-01.out");
     run_day(b"empty", b"empty.in", b"empty.out");
     run_day(b"open-limit", b"open-limit.in", b"open-limit.out");
     run_day(b"line-ends", b"line-ends.in", b"line-ends.out");
+    run_day(b"two-desks", b"two-desks.in", b"two-desks.out");
+}
+
+// Days with the answers of an independent reading of document 01.
+fn run_base() {
     run_day(b"base-1001", b"base-1001.in", b"base-1001.out");
     run_day(b"base-1002", b"base-1002.in", b"base-1002.out");
     run_day(b"base-1003", b"base-1003.in", b"base-1003.out");
@@ -199,17 +205,30 @@ fn main() {
     run_day(b"base-1006", b"base-1006.in", b"base-1006.out");
     run_day(b"base-1007", b"base-1007.in", b"base-1007.out");
     run_day(b"base-1008", b"base-1008.in", b"base-1008.out");
-    run_day(b"two-desks", b"two-desks.in", b"two-desks.out");
+}
+
+// Days that the harness drew, with the peer's answers.
+fn run_drawn() {
     run_day(b"drawn-7-01", b"drawn-7-01.in", b"drawn-7-01.out");
     run_day(b"drawn-7-02", b"drawn-7-02.in", b"drawn-7-02.out");
     run_day(b"drawn-7-03", b"drawn-7-03.in", b"drawn-7-03.out");
     run_day(b"drawn-7-04", b"drawn-7-04.in", b"drawn-7-04.out");
     run_day(b"drawn-7-05", b"drawn-7-05.in", b"drawn-7-05.out");
     run_day(b"drawn-7-06", b"drawn-7-06.in", b"drawn-7-06.out");
+}
+
+fn run_drawn_on() {
     run_day(b"drawn-7-07", b"drawn-7-07.in", b"drawn-7-07.out");
     run_day(b"drawn-7-08", b"drawn-7-08.in", b"drawn-7-08.out");
     run_day(b"drawn-7-09", b"drawn-7-09.in", b"drawn-7-09.out");
     run_day(b"drawn-7-10", b"drawn-7-10.in", b"drawn-7-10.out");
     run_day(b"drawn-7-11", b"drawn-7-11.in", b"drawn-7-11.out");
     run_day(b"drawn-7-12", b"drawn-7-12.in", b"drawn-7-12.out");
+}
+
+fn main() {
+    run_told();
+    run_base();
+    run_drawn();
+    run_drawn_on();
 }
