@@ -3,6 +3,8 @@
 //! Both are called record by record in this process, over lines that are already in memory and with one answer buffer that is not cleared between
 //! records. They take turns, and of several turns each one's best counts. What both answer is compared once, before anything is timed.
 
+use peer::days::rng::Rng;
+use peer::days::CEILING;
 use peer::gate::Gate;
 use peer::memory;
 use std::fmt::Write as _;
@@ -16,20 +18,6 @@ mod ticketmoss;
 const GROUPS: usize = 8;
 const SYMBOLS: u64 = 64;
 const TURNS: usize = 5;
-const CEILING: u64 = 4_000_000_000_000_000_000;
-
-/// Numbers that are the same in every run (splitmix64).
-struct Draw(u64);
-
-impl Draw {
-    fn below(&mut self, bound: u64) -> u64 {
-        self.0 = self.0.wrapping_add(0x9e37_79b9_7f4a_7c15);
-        let mut z = self.0;
-        z = (z ^ (z >> 30)).wrapping_mul(0xbf58_476d_1ce4_e5b9);
-        z = (z ^ (z >> 27)).wrapping_mul(0x94d0_49bb_1331_11eb);
-        (z ^ (z >> 31)) % bound
-    }
-}
 
 fn mpid(group: u64) -> String {
     format!("DSK{}", (b'A' + group as u8) as char)
@@ -64,7 +52,7 @@ fn order(number: u64) -> String {
 /// The lines of trading, over orders that are numbered from 0: of twenty, five orders (a retry, or 7, once the table is full), five retries, five
 /// fills, two reductions, two quotes and one line that breaks a form.
 fn trading(
-    draw: &mut Draw,
+    draw: &mut Rng,
     lines: usize,
     mut orders: u64,
     places: u64,
@@ -265,11 +253,11 @@ fn main() {
     };
     let small: Vec<String> = setup()
         .into_iter()
-        .chain(trading(&mut Draw(1), 1_000 - setup().len(), 0, 400, SYMBOLS))
+        .chain(trading(&mut Rng::new(1, 0, 0), 1_000 - setup().len(), 0, 400, SYMBOLS))
         .collect();
     let large: Vec<String> = setup()
         .into_iter()
-        .chain(trading(&mut Draw(2), 300_000 - setup().len(), 0, 400, SYMBOLS))
+        .chain(trading(&mut Rng::new(2, 0, 0), 300_000 - setup().len(), 0, 400, SYMBOLS))
         .collect();
 
     println!("Calls, records a second:\n");
@@ -278,7 +266,7 @@ fn main() {
     ticketmoss::fresh(&mut fresh).expect("words enough");
     day_row("small, 400 places", &fresh, &small, 20 * TURNS);
     day_row("large, 400 places", &fresh, &large, TURNS);
-    let over = trading(&mut Draw(3), 2_000, 65_535, 65_535, SYMBOLS);
+    let over = trading(&mut Rng::new(3, 0, 0), 2_000, 65_535, 65_535, SYMBOLS);
     let full = traded(65_535, 65_535);
     day_row("full table, 65,535 places", &full, &over, 2);
 
