@@ -37,7 +37,7 @@ extern "C" {
 #define TICKETMOSS_MOST_GROUPS 64
 #define TICKETMOSS_MOST_SYMBOLS 256
 
-/* ---- document 01's numbers: the fourth field of an answer line, or minus a call's answer ---- */
+/* ---- the documents' numbers: the fourth field of an answer line, or minus a call's answer ---- */
 
 #define TICKETMOSS_DONE 0              /* passed, booked or seen */
 #define TICKETMOSS_BAD_LINE 1          /* line breaks a form */
@@ -54,7 +54,6 @@ extern "C" {
 #define TICKETMOSS_TOO_LARGE 12        /* size above the group's maximum */
 #define TICKETMOSS_BAD_PRICE 13        /* price out of range or off tick */
 #define TICKETMOSS_PRICE_PROTECTION 14 /* too far from the quote */
-#define TICKETMOSS_LIMIT 15            /* a metric would pass its limit */
 #define TICKETMOSS_SIZE_DONE 16        /* changed size not above done */
 #define TICKETMOSS_CANCEL_ASKED 17     /* cancel already asked */
 #define TICKETMOSS_NUMBER_AHEAD 18     /* notice number above last + 1 */
@@ -63,6 +62,13 @@ extern "C" {
 #define TICKETMOSS_SHORT_BUFFER 21     /* buffer under 32 bytes (under 96 for a closing line) */
 #define TICKETMOSS_BAD_STATE 22        /* lent state breaks a state rule, or is too short for groups and symbols */
 #define TICKETMOSS_SHORT_MEMORY 23     /* making a fresh state: memory too short for groups and symbols */
+/* which metric would pass its limit, the first of them (document 02, order 1; they stand where 15 stood) */
+#define TICKETMOSS_GROSS_TRADE 31 /* traded buys and sells, added up */
+#define TICKETMOSS_NET_TRADE 32   /* how far they are apart */
+#define TICKETMOSS_GROSS_OPEN 33  /* open buys and sells, added up */
+#define TICKETMOSS_NET_OPEN 34    /* how far they are apart */
+#define TICKETMOSS_GROSS_BOTH 35  /* traded and open, added up */
+#define TICKETMOSS_NET_BOTH 36    /* how far buys and sells, traded and open, are apart */
 
 /* ---- document 01's outcomes: the third field of an answer line ---- */
 

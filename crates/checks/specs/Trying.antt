@@ -1,20 +1,19 @@
 -- The checks as the code tries them: what it asks of its numbers, the parts that have a function of their own, and the laws by which
 -- each test that the code makes is the check's.
-use mathlib.Core.Path.{_≡_, refl, ap, _∙_}
-use mathlib.Core.Bool.{Bool, false, not, _&&_, _||_, cond}
+use mathlib.Core.Path.{_≡_, refl}
+use mathlib.Core.Bool.{Bool, false, not, _&&_, cond}
 use mathlib.Core.Option.{Option, none, some}
 use mathlib.Core.List.{List, [], _∷_}
-use Prim.Native.Nat.{ℕ, _+_, _-_, _≤_, _<_}
+use Prim.Native.Nat.{ℕ, _-_, _≤_, _<_}
 use Prim.Native.Char.{code}
 use native.Mathlib.Omega.{arith}
 use lib.Dec.{ltb}
 use lib.ListN.{length}
-use lib.IntN.{natAbs}
 use borrow.Author.Tests.{lt-ltb, le-ltb}
 use Rattle.laws.specs.Tests.{is-none}
-use Rattle.laws.specs.Checks.{Check, _⇒_, first, here, past, either}
-use Rattle.rulebook.specs.Lines.{Side, Metrics, is-short}
-use Rattle.rulebook.specs.Kept.{Order, Group, Symbol, Tally, net, metrics, limit-checks}
+use Rattle.laws.specs.Checks.{Check, _⇒_, first, here, past}
+use Rattle.rulebook.specs.Lines.{Side, is-short}
+use Rattle.rulebook.specs.Kept.{Order, Group, Symbol, Tally, metrics, limit-checks}
 use Rattle.rulebook.specs.Prices.{bad-price, off-market}
 use Rattle.rulebook.specs.Judging.{quotes}
 use Rattle.books.specs.Layout.{least-words}
@@ -52,10 +51,6 @@ new-figures size price = record { price = price; size = size; done = 0; asked = 
 abbrev pub order-with : FigureWords → Order
 order-with f = order-said (code "B") f
 
--- the two metrics of buys and sells, against their limits
-unfoldable pub is-over : ℕ → ℕ → ℕ → ℕ → Bool
-is-over buys sells gross apart = ltb gross (buys + sells) || ltb apart (natAbs (net buys sells))
-
 -- 11: "H or E where the group says N"
 unfoldable pub is-barred : Side → Bool → Bool
 is-barred x allowed = is-short x && not allowed
@@ -64,7 +59,7 @@ is-barred x allowed = is-short x && not allowed
 abbrev pub off-quotes : Option Symbol → Side → ℕ → Bool
 off-quotes s x price = off-market x price (quotes s .bid) (quotes s .offer)
 
--- what N and M are tried by last: 13, 14, 15
+-- what N and M are tried by last: 13, 14, 31 to 36
 abbrev pub price-checks : Group → Option Symbol → Tally → Side → ℕ → List Check
 price-checks g s t x price = (bad-price price ⇒ 13) ∷ (off-quotes s x price ⇒ 14) ∷ limit-checks (g .terms .limits) (metrics t)
 
@@ -84,13 +79,3 @@ pub past-open : (size done n r : ℕ) (l : List Check) → done < size → r ≡
 past-open size done n r l h k = past _ n r l (rw (lt-ltb 0 (size - done) (omega arith)) refl) k
 
 pub ruleset order-tried = (here-unlisted, past-listed, here-closed, past-open)
-
--- ── the limits ──
--- 15: the six metrics are those of what is traded, of what is open, and of both
-pub limits-by : (l : Metrics) (t : Tally) → first (limit-checks l (metrics t)) ≡
-    first ((is-over (t .tb) (t .ts) (l .gross-trade) (l .net-trade) ⇒ 15) ∷ (is-over (t .ob) (t .os) (l .gross-open) (l .net-open) ⇒ 15) ∷ (is-over (t .tb + t .ob) (t .ts + t .os) (l .gross-both) (l .net-both) ⇒ 15) ∷ [])
-unfolding limit-checks is-over
-limits-by l t = either _ _ 15 _ _ (either _ _ 15 _ _ (ap (λ (n : ℕ). first ((ltb (l .gross-both) n ⇒ 15) ∷ (ltb (l .net-both) (natAbs (net (t .tb + t .ob) (t .ts + t .os))) ⇒ 15) ∷ [])) (sums (t .tb) (t .ts) (t .ob) (t .os)) ∙ either _ _ 15 [] [] refl))
-  where
-    sums : (a b c d : ℕ) → a + b + (c + d) ≡ a + c + (b + d)
-    sums a b c d = omega arith

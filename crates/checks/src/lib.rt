@@ -1,15 +1,17 @@
 // Document 01's per-order checks and limits, each list in its order.
 ghost use mathlib.Core.Path.{_≡_};
 ghost use Prim.Native.Nat.{_+_, _-_, _≤_, _<_};
+ghost use lib.ListN.{length};
 ghost use Rattle.rulebook.specs.Prices.{tick, bad-price, rows, row-in, too-far, off-market};
 ghost use Rattle.rulebook.specs.Lines.{is-buy};
 ghost use Rattle.fields.specs.Series.{side-of};
 ghost use Rattle.laws.specs.Checks.{first};
 ghost use Rattle.rulebook.specs.Kept.{metrics, limit-checks, sized};
 ghost use Rattle.rulebook.specs.Judging.{new-checks, change-checks, cancel-checks, fill-checks, reduction-checks, refused-checks};
+ghost use Rattle.books.specs.Layout.{least-words};
 ghost use Rattle.books.specs.View.{flag, group-of, rows-of};
-ghost use Rattle.checks.specs.Saying.{figures-said, tally-said, order-said, symbol-at};
-ghost use Rattle.checks.specs.Trying.{Measurable, Quotable, Checkable, new-figures, order-with, is-over, off-quotes, is-barred, price-checks};
+ghost use Rattle.checks.specs.Saying.{figures-said, tally-said, metrics-said, order-said, symbol-at};
+ghost use Rattle.checks.specs.Trying.{Measurable, Quotable, Checkable, new-figures, order-with, off-quotes, is-barred, price-checks};
 ghost use Rattle.checks.specs.Protection.{table, row-at, row-said, terms};
 ghost use Rattle.checks.specs.Beyond.{Quoted};
 
@@ -27,6 +29,16 @@ pub struct Tally {
     pub ts: u64,
     pub ob: u64,
     pub os: u64,
+}
+
+// The six metrics, in document 01's order.
+struct Metrics {
+    gross_trade: u64,
+    net_trade: u64,
+    gross_open: u64,
+    net_open: u64,
+    gross_both: u64,
+    net_both: u64,
 }
 
 // A row of price protection: the prices below its bound, and what they are held to.
@@ -159,48 +171,68 @@ pub fn off_market(side: u64, price: u64, bid: u64, offer: u64) -> bool
     too_far(price, bid, beyond(bid, price))
 }
 
-// Whether the gross of buys and sells is above its limit, or their net, how far they are apart, above its own.
-fn is_over(buys: u64, sells: u64, gross: u64, apart: u64) -> bool
-    requires { ⌜ buys + sells ≤ 5_000_000_000_000_000_000 ⌝ }
-    ensures { λ r. ⌜ r ≡ is-over buys sells gross apart ⌝ }
+// The six metrics of a tally.
+fn measured(t: Tally) -> Metrics
+    requires { ⌜ metrics (tally-said t) .gross-both ≤ 5_000_000_000_000_000_000 ⌝ }
+    ensures { λ r. ⌜ metrics-said r ≡ metrics (tally-said t) ⌝ }
 {
-    if buys + sells > gross {
-        return true;
+    Metrics {
+        gross_trade: t.tb + t.ts,
+        net_trade: net::net_size(t.tb, t.ts),
+        gross_open: t.ob + t.os,
+        net_open: net::net_size(t.ob, t.os),
+        gross_both: t.tb + t.ts + (t.ob + t.os),
+        net_both: net::net_size(t.tb + t.ob, t.ts + t.os),
     }
-    net::net_size(buys, sells) > apart
 }
 
-// 15 where a metric is above its limit, traded, open or both, and else 0.
+// A group's six limits.
+fn limits_of(mem: &[u64], group: usize) -> Metrics
+    requires { ⌜ (least-words ≤ length (now mem)) × (group < 64) ⌝ }
+    ensures { λ r. ⌜ metrics-said r ≡ group-of (rows-of (now (mem .entry))) group .terms .limits ⌝ }
+{
+    let b = books::GROUPS + group * books::GROUP_WORDS;
+    Metrics {
+        gross_trade: mem[b + books::GROSS_TRADE],
+        net_trade: mem[b + books::NET_TRADE],
+        gross_open: mem[b + books::GROSS_OPEN],
+        net_open: mem[b + books::NET_OPEN],
+        gross_both: mem[b + books::GROSS_BOTH],
+        net_both: mem[b + books::NET_BOTH],
+    }
+}
+
+// The number of the first metric that is above its limit, 31 to 36, or 0 where none is.
+fn first_above(limits: Metrics, m: Metrics) -> u64
+    ensures { λ r. ⌜ r ≡ first (limit-checks (metrics-said limits) (metrics-said m)) ⌝ }
+{
+    if m.gross_trade > limits.gross_trade {
+        return 31;
+    }
+    if m.net_trade > limits.net_trade {
+        return 32;
+    }
+    if m.gross_open > limits.gross_open {
+        return 33;
+    }
+    if m.net_open > limits.net_open {
+        return 34;
+    }
+    if m.gross_both > limits.gross_both {
+        return 35;
+    }
+    if m.net_both > limits.net_both {
+        return 36;
+    }
+    0
+}
+
+// Which limit of a group a tally passes first, 31 to 36, or 0 where it passes none.
 pub fn limit_number(mem: &[u64], group: usize, t: Tally) -> u64
     requires { ⌜ Measurable (now mem) group t ⌝ }
     ensures { λ r. ⌜ r ≡ first (limit-checks (group-of (rows-of (now (mem .entry))) group .terms .limits) (metrics (tally-said t))) ⌝ }
 {
-    let b = books::GROUPS + group * books::GROUP_WORDS;
-    if is_over(
-        t.tb,
-        t.ts,
-        mem[b + books::GROSS_TRADE],
-        mem[b + books::NET_TRADE],
-    ) {
-        return 15;
-    }
-    if is_over(
-        t.ob,
-        t.os,
-        mem[b + books::GROSS_OPEN],
-        mem[b + books::NET_OPEN],
-    ) {
-        return 15;
-    }
-    if is_over(
-        t.tb + t.ob,
-        t.ts + t.os,
-        mem[b + books::GROSS_BOTH],
-        mem[b + books::NET_BOTH],
-    ) {
-        return 15;
-    }
-    0
+    first_above(limits_of(mem, group), measured(t))
 }
 
 // Whether price protection refuses an order by the quotes of its symbol's row. Where that is not listed no quote is known, and it does not.
@@ -215,7 +247,7 @@ fn off_quotes(mem: &[u64], symbol: usize, side: u64, price: u64) -> bool
     off_market(side, price, mem[b + books::BID], mem[b + books::OFFER])
 }
 
-// What an N and an M are tried by last: 13, 14 or 15, or 0 where none of them refuses.
+// What an N and an M are tried by last: 13, 14, or 31 to 36, or 0 where none of them refuses.
 fn price_number(mem: &[u64], group: usize, symbol: usize, t: Tally, side: u64, price: u64) -> u64
     requires { ⌜ Checkable (now mem) group symbol t price ⌝ }
     ensures { λ r. ⌜ r ≡ first (price-checks (group-of (rows-of (now (mem .entry))) group) (symbol-at (rows-of (now (mem .entry))) symbol) (tally-said t) (side-of side) price) ⌝ }
@@ -242,7 +274,7 @@ fn is_barred(side: u64, mark: u64) -> bool
     mark == 0
 }
 
-// What an N is tried by: 8, 10, 11, 12, 13, 14, 15, the first that refuses it, or 0.
+// What an N is tried by: 8, 10, 11, 12, 13, 14, 31 to 36, the first that refuses it, or 0.
 pub fn new_number(
     mem: &[u64],
     group: usize,
@@ -271,7 +303,7 @@ pub fn new_number(
     price_number(mem, group, symbol, t, side, price)
 }
 
-// What an M is tried by: 9, 17, 10, 12, 16, 13, 14, 15, the first that refuses it, or 0. `old` is the target as it stands.
+// What an M is tried by: 9, 17, 10, 12, 16, 13, 14, 31 to 36, the first that refuses it, or 0. `old` is the target as it stands.
 pub fn change_number(
     mem: &[u64],
     group: usize,

@@ -1,6 +1,6 @@
 -- Chains of checks: tests with numbers, of which the first that holds gives its own.
 use mathlib.Core.Path.{_≡_, refl, sym, _∙_}
-use mathlib.Core.Bool.{Bool, true, false, not, _&&_, _||_, cond, and-eq-true-iff}
+use mathlib.Core.Bool.{Bool, true, false, not, _&&_, cond, and-eq-true-iff}
 use mathlib.Core.List.{List, [], _∷_}
 use Prim.Native.Nat.{ℕ, _≤_, _<_}
 use native.Mathlib.Omega.{arith}
@@ -117,10 +117,3 @@ pub past-most : (m most n r : ℕ) (l : List Check) → most < m → r ≡ first
 past-most m most n r l h k = past (leb m most) n r l (lt-leb m most h) k
 
 pub ruleset checks-tried = (here, past, all-past, here-call, past-call, here-over, past-over, here-most, past-most, arith)
-
--- two checks with one number are one check of either
-pub either : (a b : Bool) (n : ℕ) (l k : List Check) → first l ≡ first k → first ((a ⇒ n) ∷ (b ⇒ n) ∷ l) ≡ first ((a || b ⇒ n) ∷ k)
-unfolding first
-either true b n l k e = refl
-either false true n l k e = refl
-either false false n l k e = e

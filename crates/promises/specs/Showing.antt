@@ -12,9 +12,9 @@ use Rattle.laws.specs.Tests.{both, neither}
 use Rattle.laws.specs.Tables.{All, Each}
 use Rattle.laws.specs.Checks.{first}
 use Rattle.rulebook.specs.Names.{Ident}
-use Rattle.rulebook.specs.Lines.{ceiling, News, quote, fill, reduction, cancel-refused, Record, broken, open-day, group, symbol, ask, tell, Field, number, serial, Line, line-of}
+use Rattle.rulebook.specs.Lines.{ceiling, highest, News, quote, fill, reduction, cancel-refused, Record, broken, open-day, group, symbol, ask, tell, Field, number, serial, Line, line-of}
 use Rattle.rulebook.specs.Kept.{Group, Books, Tally}
-use Rattle.rulebook.specs.Outcomes.{Answer, answer-line, closing-line}
+use Rattle.rulebook.specs.Outcomes.{Answer, record-numbers, answer-line, closing-line}
 use Rattle.rulebook.specs.Judging.{judge}
 use Rattle.fields.specs.Digits.{number-of}
 use Rattle.fields.specs.Numbers.{number-digits}
@@ -90,7 +90,7 @@ pub answer-shown : (x : Record) (a : Answer) (l : List ℕ) → IsLine (answer-l
 answer-shown x a l w =
     let f = field-of (answer-line x a) l (kind-clear x) (answer-good x a) w in
     let o : getD (field 2 l) 0 0 ≡ code (a .outcome) = ap (λ f. getD f 0 0) (f 1 .0) in
-    let n : number-of (field 3 l) ≡ a .number = number-said 0 20 (a .number) (field 3 l) (omega arith) (f 2) in
+    let n : number-of (field 3 l) ≡ a .number = number-said 0 (highest record-numbers) (a .number) (field 3 l) (omega arith) (f 2) in
     let s : number-of (field 4 l) ≡ a .sent = number-said 0 1 (a .sent) (field 4 l) (omega arith) (f 3) in
     λ i. record { outcome = o i; number = n i; sent = s i }
 

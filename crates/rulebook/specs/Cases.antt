@@ -1,35 +1,41 @@
 -- What a verdict can be. Judging is taken apart here once, and the theorems go by these cases.
 use mathlib.Core.Path.{_≡_, refl, sym, _∙_, subst}
-use mathlib.Core.Bool.{Bool, true, false, cond, false≢true, and-eq-true-iff}
+use mathlib.Core.Bool.{Bool, true, false, _||_, cond, false≢true, and-eq-true-iff, or-true}
 use mathlib.Core.Option.{Option, none, some, Option·elim}
 use mathlib.Core.List.{List, [], _∷_}
-use Prim.Native.Nat.{ℕ, suc, _*_, _≤_, _<_}
+use Prim.Native.Nat.{ℕ, suc, _*_, _≤_, _<_, max}
 use native.Mathlib.Omega.{arith}
 use lib.ListN.{length}
 use lib.Dec.{leb, ltb, eqb}
-use borrow.Author.Tests.{ltb-true, ltb-false, leb-true, leb-false, le-leb, lt-leb, ne-eqb, not-false}
-use Rattle.laws.specs.Tests.{split, opt, is-none, none-of}
+use borrow.Author.Tests.{ltb-true, ltb-false, leb-true, leb-false, lt-leb, ne-eqb, not-false}
+use Rattle.laws.specs.Tests.{on, split, opt, is-none, none-of}
 use Rattle.laws.specs.Tables.{look, Has, stay, adds, puts, shifted}
 use Rattle.laws.specs.Checks.{Check, _⇒_, first, Clear, each, first-cases}
 use Rattle.rulebook.specs.Names.{Ident, Mpid, Key}
-use Rattle.rulebook.specs.Lines.{from-to, Side, Metrics, Terms, Deal, new, change, cancel, block, unblock, Request, News, quote, fill, reduction, cancel-refused, Record, broken, open-day, group, symbol, ask, tell, same-request, is-buy, ceiling}
+use Rattle.rulebook.specs.Lines.{from-to, among, highest, Side, Metrics, Terms, Deal, new, change, cancel, block, unblock, Request, News, quote, fill, reduction, cancel-refused, Record, broken, open-day, group, symbol, ask, tell, same-request, is-buy, ceiling}
 use Rattle.rulebook.specs.Kept.{Figures, Order, Group, Symbol, Asked, Ledger, Books, by-mpid, by-id, by-key, by-request, new-group, new-symbol, new-order, remaining, is-open, with-figures, sized, asking, worked, traded, blocking, Tally, tally, metrics, limit-checks, tested}
+use Rattle.rulebook.specs.Outcomes.{record-numbers}
 use Rattle.rulebook.specs.Judging.{Deed, deed, idle, Edit, nothing, opened, listed, Ruling, hold, rule, found, named, new-checks, change-checks, change-ruling, cancel-checks, cancel-ruling, deal-ruling, fill-checks, reduction-checks, refused-checks, at-order, news-ruling, Verdict, verdict, reply, remember, book, see, judge-request, judge-notice, setup, judge}
 use Rattle.rulebook.specs.Rules.{is-kept}
 
 -- ── checks ──
--- a number of the table that a record may get
+-- a number that a record may get
 abbrev pub is-number : ℕ → Bool
-is-number n = from-to 1 20 n
+is-number = among record-numbers
 
 pub in-range : (low high n : ℕ) → from-to low high n ≡ true → (low ≤ n) × (n ≤ high)
 in-range low high n h = let p = and-eq-true-iff (leb low n) (leb n high) .0 h in (leb-true low n (p .0), leb-true n high (p .1))
 
+pub among-most : (n : ℕ) (rs : List (ℕ × ℕ)) → among rs n ≡ true → n ≤ highest rs
+among-most n [] h = absurd (false≢true h)
+among-most n (r ∷ rs) h = on (λ t. (t || among rs n) ≡ true → from-to (r .0) (r .1) n ≡ t → n ≤ max (r .1) (highest rs)) (from-to (r .0) (r .1) n)
+    (λ e k z. omega (arith, in-range (r .0) (r .1) n z)) (λ e k z. omega (arith, among-most n rs k)) h refl
+
 pub number-not : (n : ℕ) → is-number n ≡ true → eqb n 0 ≡ false
-number-not n h = ne-eqb n 0 (λ e. omega (arith, in-range 1 20 n h))
+number-not n h = ne-eqb n 0 (λ e. false≢true (subst (λ n. is-number n ≡ true) e h))
 
 pub kept-number : (n : ℕ) → is-kept n ≡ true → is-number n ≡ true
-kept-number n h = let p = in-range 8 17 n h in and-eq-true-iff (leb 1 n) (leb n 20) .1 (le-leb 1 n (omega arith), le-leb n 20 (omega arith))
+kept-number n h = rw (h, or-true, or-true) refl
 
 abbrev pub grant : Deed → Ruling
 grant d = record { number = 0; deed = d }

@@ -7,16 +7,15 @@ use native.Mathlib.Decide.{ℕ-discrete}
 use Prim.Native.Nat.{ℕ}
 use native.Mathlib.Omega.{arith}
 use Prim.Native.Char.{Char, code}
-use lib.ListN.{replicate}
 use lib.Dec.{eqb}
 use Rattle.laws.specs.Tests.{exact-discrete}
 use Rattle.laws.specs.Tables.{All, look, put}
 use Rattle.laws.specs.Checks.{first, numbers}
 use Rattle.rulebook.specs.Names.{bytes, word, ident-of, mpid-of, Mpid, Key}
-use Rattle.rulebook.specs.Lines.{Side, buy, sell, ceiling, Metrics, Deal, new, change, cancel, block, unblock, Record, open-day, group, symbol, ask, tell, quote, fill, reduction, same-request, Field, letter, number, identifier, mpid, serial, size, yes-no, from-to, Fits, Line, line, Formed}
+use Rattle.rulebook.specs.Lines.{Side, buy, sell, ceiling, Metrics, Deal, new, change, cancel, block, unblock, Record, open-day, group, symbol, ask, tell, quote, fill, reduction, same-request, Field, letter, number, identifier, mpid, serial, size, yes-no, from-to, highest, Fits, Line, line, Formed}
 use Rattle.rulebook.specs.Kept.{Figures, Order, Group, Symbol, Tally, open-value, worth, limit-checks, fresh-books}
 use Rattle.rulebook.specs.Prices.{bad-price, rows, off-market}
-use Rattle.rulebook.specs.Outcomes.{Answer, answer-line, closing}
+use Rattle.rulebook.specs.Outcomes.{Answer, record-numbers, answer-line, closing}
 use Rattle.rulebook.specs.Judging.{enact, apply, new-checks, change-checks, cancel-checks, fill-checks, reduction-checks, refused-checks, deal-ruling, news-ruling, judge-request, judge-notice, judge}
 use Rattle.rulebook.specs.Day.{run, Entry, log}
 
@@ -52,7 +51,7 @@ sample =
 
 -- an answer line: kind, name, outcome, number, sent
 abbrev answers : Char → Field → Char → ℕ → ℕ → Line
-answers kind field outcome n sent = line kind (field ∷ letter (bytes "PKSRA") (code outcome) ∷ number 0 20 n ∷ number 0 1 sent ∷ [])
+answers kind field outcome n sent = line kind (field ∷ letter (bytes "PKSRA") (code outcome) ∷ number 0 (highest record-numbers) n ∷ number 0 1 sent ∷ [])
 
 abbrev about : Char → Field
 about c = identifier (name c .name)
@@ -66,10 +65,10 @@ sample-answers =
     ∷ answers "N" (about "1") "P" 0 1
     ∷ answers "N" (about "1") "P" 0 0
     ∷ answers "N" (about "1") "R" 6 0
-    ∷ answers "N" (about "2") "R" 15 0
+    ∷ answers "N" (about "2") "R" 33 0
     ∷ answers "F" (serial 2) "K" 0 0
     ∷ answers "F" (serial 2) "S" 0 0
-    ∷ answers "N" (about "2") "R" 15 0
+    ∷ answers "N" (about "2") "R" 33 0
     ∷ answers "D" (serial 4) "R" 18 0
     ∷ answers "C" (about "3") "P" 0 1
     ∷ answers "D" (serial 3) "K" 0 0
@@ -187,11 +186,11 @@ readings-answers =
     ∷ answer "R" 10 0
     ∷ answer "P" 0 0
     ∷ answer "P" 0 1
-    ∷ answer "R" 15 0
+    ∷ answer "R" 33 0
     ∷ answer "A" 9 0
     ∷ answer "S" 0 0
     ∷ answer "K" 0 0
-    ∷ answer "R" 15 0
+    ∷ answer "R" 33 0
     ∷ []
 
 -- THEOREM. Four of them, in one day; the others are about price protection, below
@@ -200,10 +199,14 @@ unfolding judging readings readings-answers
 readings-answered = refl
 
 -- ── the order of refusals, at the end of "Outcomes" ──
+-- what stands where 15 stood (document 02, order 1)
+abbrev limit-numbers : List ℕ
+limit-numbers = 31 ∷ 32 ∷ 33 ∷ 34 ∷ 35 ∷ 36 ∷ []
+
 -- THEOREM. Each list of checks has the numbers that the paper gives its kind, in its order
 pub stated-order : (g : Group) (s : Option Symbol) (t : Tally) (o : Order) (f : Figures) (z : ℕ) →
-    (numbers (new-checks g s t o) ≡ 8 ∷ 10 ∷ 11 ∷ 12 ∷ 13 ∷ 14 ∷ replicate 6 15)
-    × (numbers (change-checks g s t o f) ≡ 9 ∷ 17 ∷ 10 ∷ 12 ∷ 16 ∷ 13 ∷ 14 ∷ replicate 6 15)
+    (numbers (new-checks g s t o) ≡ 8 ∷ 10 ∷ 11 ∷ 12 ∷ 13 ∷ 14 ∷ limit-numbers)
+    × (numbers (change-checks g s t o f) ≡ 9 ∷ 17 ∷ 10 ∷ 12 ∷ 16 ∷ 13 ∷ 14 ∷ limit-numbers)
     × (numbers (cancel-checks o) ≡ 9 ∷ 17 ∷ [])
     × (numbers (fill-checks t z o) ≡ 9 ∷ 19 ∷ 20 ∷ [])
     × (numbers (reduction-checks z o) ≡ 9 ∷ 19 ∷ [])
@@ -247,7 +250,7 @@ cases =
     ∷ buys 0 999_900 0
     ∷ buys 0 999_950 13
     ∷ limited 10_000_000 10_000_000 0
-    ∷ limited 9_999_999 10_000_000 15
+    ∷ limited 9_999_999 10_000_000 33
     ∷ buys 15_009_091 16_510_000 0
     ∷ []
 

@@ -152,15 +152,15 @@ metrics t = record {
   net-both = natAbs (net (t .tb + t .ob) (t .ts + t .os));
 }
 
--- 15: "a metric would pass its limit"
+-- "a metric would pass its limit": 31 to 36, one per metric in their order, "the first that fails being given" (document 02, order 1)
 unfoldable pub limit-checks : Metrics → Metrics → List Check
 limit-checks l m =
-    (ltb (l .gross-trade) (m .gross-trade) ⇒ 15)
-    ∷ (ltb (l .net-trade) (m .net-trade) ⇒ 15)
-    ∷ (ltb (l .gross-open) (m .gross-open) ⇒ 15)
-    ∷ (ltb (l .net-open) (m .net-open) ⇒ 15)
-    ∷ (ltb (l .gross-both) (m .gross-both) ⇒ 15)
-    ∷ (ltb (l .net-both) (m .net-both) ⇒ 15)
+    (ltb (l .gross-trade) (m .gross-trade) ⇒ 31)
+    ∷ (ltb (l .net-trade) (m .net-trade) ⇒ 32)
+    ∷ (ltb (l .gross-open) (m .gross-open) ⇒ 33)
+    ∷ (ltb (l .net-open) (m .net-open) ⇒ 34)
+    ∷ (ltb (l .gross-both) (m .gross-both) ⇒ 35)
+    ∷ (ltb (l .net-both) (m .net-both) ⇒ 36)
     ∷ []
 
 -- "if any metric is above its limit, the group becomes blocked"

@@ -14,4 +14,5 @@ pub mod Retries
 pub mod Sums
 pub mod Keeping
 pub mod Forms
+pub mod Limits
 pub mod Examples

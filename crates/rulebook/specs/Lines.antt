@@ -4,7 +4,7 @@ use mathlib.Core.Path.{_≡_}
 use mathlib.Core.Bool.{Bool, true, false, not, _&&_, _||_, cond, decide}
 use mathlib.Core.List.{List, [], _∷_}
 use native.Mathlib.Decide.{ℕ-discrete}
-use Prim.Native.Nat.{ℕ, _≤_}
+use Prim.Native.Nat.{ℕ, _≤_, max}
 use Prim.Native.Char.{Char, code}
 use lib.Dec.{leb, eqb}
 use lib.ListN.{length}
@@ -93,6 +93,15 @@ Fits (number low high n) = (low ≤ n) × (n ≤ high)
 
 abbrev pub from-to : ℕ → ℕ → ℕ → Bool
 from-to low high n = leb low n && leb n high
+
+-- in one of some ranges, and the highest number of them
+abbrev pub among : List (ℕ × ℕ) → ℕ → Bool
+among [] n = false
+among (r ∷ rs) n = from-to (r .0) (r .1) n || among rs n
+
+abbrev pub highest : List (ℕ × ℕ) → ℕ
+highest [] = 0
+highest (r ∷ rs) = max (r .1) (highest rs)
 
 abbrev pub identifier : Ident → Field
 identifier = text 1 20 (λ c. from-to 33 126 c && not (eqb c (code "|")))

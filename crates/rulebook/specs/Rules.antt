@@ -7,13 +7,14 @@ use Prim.Native.Nat.{ℕ, _≤_}
 use lib.ListN.{length}
 use lib.Dec.{eqb}
 use Rattle.laws.specs.Tables.{All, Has, Apart}
-use Rattle.rulebook.specs.Lines.{ceiling, from-to, group, ask, tell, quote, size, price, Fits, Formed}
+use Rattle.rulebook.specs.Lines.{ceiling, among, group, ask, tell, quote, size, price, Fits, Formed}
 use Rattle.rulebook.specs.Kept.{Ticket, Order, Group, Symbol, Asked, Ledger, Books, by-mpid, by-id, by-request, tally, metrics}
+use Rattle.rulebook.specs.Outcomes.{kept-numbers}
 use Rattle.rulebook.specs.Account.{tickets, deal-effect}
 
--- the numbers that the table remembers of refusals
+-- a number that the table remembers of a refusal
 abbrev pub is-kept : ℕ → Bool
-is-kept n = from-to 8 17 n
+is-kept = among kept-numbers
 
 -- the tickets of the table's passed N
 abbrev pub tickets-at : Asked → List Ticket

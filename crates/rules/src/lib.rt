@@ -129,14 +129,20 @@ pub fn symbol_ok(mem: &[u64], i: usize) -> bool
     within(mem, b + books::BID, QUOTES, MOST_PRICE)
 }
 
-// Whether a number is one that the table remembers: 0, or 8 to 17.
+// Whether a number is one that the table remembers: 0, or 8 to 14, 16, 17, 31 to 36.
 fn number_ok(n: u64) -> bool
     ensures { λ r. ⌜ r ≡ number-ok n ⌝ }
 {
     if n == 0 {
         return true;
     }
-    packing::in_range(8, 17, n)
+    if packing::in_range(8, 14, n) {
+        return true;
+    }
+    if packing::in_range(16, 17, n) {
+        return true;
+    }
+    packing::in_range(31, 36, n)
 }
 
 // Whether the size and the price of the request at b are in range.

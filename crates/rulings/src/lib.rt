@@ -229,7 +229,7 @@ fn amend(number: u64, group: usize, i: usize, figures: Figures, t: Tally) -> Rul
     }
 }
 
-// An N judged: 8, 10, 11, 12, 13, 14, 15, or its order is counted. Whose it is and under which identifier, its key, is the contract's to say.
+// An N judged: 8, 10, 11, 12, 13, 14, 31 to 36, or its order is counted. Whose it is and under which identifier, its key, is the contract's to say.
 fn new_ruling(
     mem: &[u64],
     group: usize,
@@ -270,7 +270,7 @@ fn new_ruling(
     }
 }
 
-// An M judged whose target stands at a place: 9, 17, 10, 12, 16, 13, 14, 15, or size and price are set.
+// An M judged whose target stands at a place: 9, 17, 10, 12, 16, 13, 14, 31 to 36, or size and price are set.
 fn change_at(mem: &[u64], group: usize, i: usize, size: u64, price: u64) -> Ruling
     requires { ⌜ Held (now mem) group i ⌝ }
     requires { ⌜ Small size price ⌝ }
