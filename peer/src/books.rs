@@ -64,6 +64,12 @@ pub struct Place {
     pub fields: Fields,
 }
 
+/// A number that a place can remember: those of "Outcomes" that say so, with 31 to 36 in
+/// the place of 15 (document 02, order 1), and 0 for a request that passed.
+pub fn remembered(number: u64) -> bool {
+    matches!(number, 0 | 8..=14 | 16 | 17 | 31..=36)
+}
+
 /// A request's kind, target (three words), symbol ID, side, size and price, as they stand
 /// in the lent words. A field that the kind does not have is 0.
 pub type Fields = [u64; 8];

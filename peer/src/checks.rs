@@ -57,8 +57,9 @@ impl Totals {
         tb + ts + ob + os
     }
 
-    /// No metric is above its limit.
-    pub fn within(&self, limits: &[u64; 6]) -> bool {
+    /// No metric is above its limit. Otherwise the number of the first that is: 31 to 36, in
+    /// the order of the limits (document 02, order 1).
+    pub fn within(&self, limits: &[u64; 6]) -> Result<(), u8> {
         let [[tb, ts], [ob, os]] = [self.traded, self.open];
         let metrics = [
             tb + ts,
@@ -68,6 +69,11 @@ impl Totals {
             self.gross(),
             (tb + ob).abs_diff(ts + os),
         ];
-        metrics.iter().zip(limits).all(|(metric, limit)| metric <= limit)
+        for (number, (metric, limit)) in (31..).zip(metrics.iter().zip(limits)) {
+            if metric > limit {
+                return Err(number);
+            }
+        }
+        Ok(())
     }
 }

@@ -185,7 +185,7 @@ impl Gate {
                 stop(protected(side, price, quote.bid, quote.offer), 14)?;
                 let mut after = group.totals;
                 after.open[side.column()] += size * price;
-                stop(!after.within(&group.limits), 15)?;
+                after.within(&group.limits)?;
                 group.totals = after;
                 let symbol = symbol as u16;
                 return Ok(Some(Order { side, symbol, price, size, done: 0, cancel_asked: false }));
@@ -203,7 +203,7 @@ impl Gate {
                 let mut after = group.totals;
                 let open = &mut after.open[order.side.column()];
                 *open = *open - order.open_value() + changed.open_value();
-                stop(!after.within(&group.limits), 15)?;
+                after.within(&group.limits)?;
                 group.totals = after;
                 *order = changed;
             }
@@ -266,7 +266,7 @@ impl Gate {
         after.traded[side] += size * price;
         stop(after.gross() > CEILING, 20)?;
         group.totals = after;
-        group.blocked |= !after.within(&group.limits);
+        group.blocked |= after.within(&group.limits).is_err();
         order.done += size;
         Ok(())
     }

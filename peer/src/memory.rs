@@ -5,7 +5,7 @@
 //! ends the building.
 
 use crate::books::{group_key, place_key, symbol_key, Fields, Group, Order, Place, Symbol};
-use crate::books::{MOST_GROUPS, MOST_SYMBOLS};
+use crate::books::{remembered, MOST_GROUPS, MOST_SYMBOLS};
 use crate::checks::Totals;
 use crate::gate::Gate;
 use crate::line::{Ident, Mpid, Side, CEILING, LIMIT, NUMBER, PRICE, QUOTE, SIZE};
@@ -224,7 +224,7 @@ fn group(words: &[u64; GROUP]) -> Result<Group, &'static str> {
 /// A place's request and its remembered number.
 fn request(words: &[u64; REQUEST]) -> Result<(Fields, u8), &'static str> {
     let [kind, number, t0, t1, t2, symbol, side, size, price] = *words;
-    rule(number == 0 || (8..=17).contains(&number), "a remembered number is 0 or 8 to 17")?;
+    rule(remembered(number), "a remembered number is 0, 8 to 14, 16, 17 or 31 to 36")?;
     let target = || rule(Ident::from_words([t0, t1, t2]).is_some(), "a target has the form");
     let sized = || {
         rule(SIZE.contains(&size), "a request's size is in range")?;

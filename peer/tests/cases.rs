@@ -1,4 +1,5 @@
-//! Document 01's cases on both sides of a line, and the order of checks.
+//! Document 01's cases on both sides of a line, the order of checks, and which limit stopped
+//! an order (document 02, order 1).
 
 mod common;
 
@@ -45,14 +46,134 @@ fn starred_cases() {
 
 #[test]
 fn open_value_at_its_limit() {
-    for (limit, answer) in [(1_000_000_000, "N T1 P 0 1"), (999_999_999, "N T1 R 15 0")] {
-        for place in 2..6 {
-            let mut limits = ["4000000000000000000"; 6].map(String::from);
-            limits[place] = limit.to_string();
-            let group = format!("G ABCD {} 1000000 N", limits.join(" "));
-            let mut gate = after(10, &[&group, "S 7", "O"]);
-            assert_eq!(say(&mut gate, "N T1 ABCD 7 B 100 10000000"), answer);
+    for (place, refused) in [(2, 33), (3, 34), (4, 35), (5, 36)] {
+        for (limit, answer) in [(1_000_000_000, "P 0 1"), (999_999_999, &format!("R {refused} 0"))]
+        {
+            let mut limits = [CEILING; 6];
+            limits[place] = limit;
+            let mut gate = after(10, &[&limited(limits), "S 7", "O"]);
+            let answered = say(&mut gate, "N T1 ABCD 7 B 100 10000000");
+            assert_eq!(answered, format!("N T1 {answer}"));
         }
+    }
+}
+
+const CEILING: u64 = 4_000_000_000_000_000_000;
+
+/// Group ABCD with these limits.
+fn limited(limits: [u64; 6]) -> String {
+    format!("G ABCD {} 1000000 N", limits.map(|limit| limit.to_string()).join(" "))
+}
+
+/// The metrics after either request of `TOO_MUCH` on the day of `traded`: TB is 1,000,000, TS
+/// 300,000, OB 290,000 (N: 9 x 10,000 + 20 x 10,000; M: 29 x 10,000), OS 9 x 10,000.
+const METRICS: [u64; 6] = [1_300_000, 700_000, 380_000, 200_000, 1_680_000, 900_000];
+const TOO_MUCH: [&str; 2] = ["N T3 ABCD 7 B 20 10000", "M T3 ABCD T1 30 10000"];
+
+/// A day with these limits and an order on each side, of which one share of ten was filled.
+fn filled(limits: [u64; 6]) -> Gate {
+    after(
+        20,
+        &[
+            &limited(limits),
+            "S 7",
+            "O",
+            "N T1 ABCD 7 B 10 10000",
+            "N T2 ABCD 7 S 10 10000",
+            "F 1 ABCD T1 1 1000000",
+            "F 2 ABCD T2 1 300000",
+        ],
+    )
+}
+
+/// The same with the block removed that the fills may have set.
+fn traded(limits: [u64; 6]) -> Gate {
+    let mut gate = filled(limits);
+    assert_eq!(say(&mut gate, "R R1 ABCD"), "R R1 P 0 0");
+    gate
+}
+
+/// Document 02, order 1, on every choice of metrics that fail: one millionth above their
+/// limits, the others equal to theirs. The first that fails is given.
+#[test]
+fn the_first_metric_above_its_limit() {
+    for failing in 0..64 {
+        let mut limits = METRICS;
+        for (place, limit) in limits.iter_mut().enumerate() {
+            *limit -= failing >> place & 1;
+        }
+        let answer = match (0..6).find(|place| failing >> place & 1 == 1) {
+            Some(first) => format!("R {} 0", 31 + first),
+            None => "P 0 1".to_string(),
+        };
+        for request in TOO_MUCH {
+            let answered = say(&mut traded(limits), request);
+            assert_eq!(answered, format!("{} {answer}", &request[..4]), "{failing:06b}");
+        }
+    }
+}
+
+/// Each metric alone: equal to its limit, then one millionth above it.
+#[test]
+fn each_metric_alone() {
+    for place in 0..6 {
+        for less in [0, 1] {
+            let mut limits = [CEILING; 6];
+            limits[place] = METRICS[place] - less;
+            let answer = if less == 0 { "P 0 1".into() } else { format!("R {} 0", 31 + place) };
+            for request in TOO_MUCH {
+                let answered = say(&mut traded(limits), request);
+                assert_eq!(answered, format!("{} {answer}", &request[..4]));
+                // A fill that passes a trade limit has blocked the group.
+                if place < 2 && less == 1 {
+                    let blocked = format!("{} R 10 0", &request[..4]);
+                    assert_eq!(say(&mut filled(limits), request), blocked);
+                }
+            }
+        }
+    }
+}
+
+/// What was refused stays refused with its number when its limit has room, and when another
+/// metric would fail first.
+#[test]
+fn which_limit_is_remembered() {
+    for (place, metric) in METRICS.into_iter().enumerate() {
+        let mut limits = [CEILING; 6];
+        limits[place] = metric - 1;
+        for request in TOO_MUCH {
+            let mut gate = traded(limits);
+            let refused = format!("{} R {} 0", &request[..4], 31 + place);
+            assert_eq!(say(&mut gate, request), refused);
+            let again = request.replacen("T3", "T4", 1);
+            match place {
+                // Gross trade never falls.
+                0 => assert_eq!(say(&mut gate, &again), refused.replace("T3", "T4")),
+                // 1,000 more sold, or a share less open to buy: each is enough.
+                _ => {
+                    let room = if place == 1 { "F 3 ABCD T2 1 1000" } else { "D 3 ABCD T1 1" };
+                    assert!(say(&mut gate, room).ends_with(" K 0 0"));
+                    assert_eq!(say(&mut gate, request), refused);
+                    assert_eq!(say(&mut gate, &again), format!("{} P 0 1", &again[..4]));
+                }
+            }
+            assert_eq!(say(&mut gate, request), refused);
+            let differs = request.replace("10000", "10100");
+            assert_eq!(say(&mut gate, &differs), format!("{} R 6 0", &request[..4]));
+        }
+    }
+    // Net open is refused first; then a fill brings gross trade above its limit.
+    let mut limits = [CEILING; 6];
+    (limits[0], limits[3]) = (METRICS[0], METRICS[3] - 1);
+    for request in TOO_MUCH {
+        let mut gate = traded(limits);
+        let refused = format!("{} R 34 0", &request[..4]);
+        assert_eq!(say(&mut gate, request), refused);
+        assert_eq!(say(&mut gate, "F 3 ABCD T1 1 1"), "F 3 K 0 0");
+        assert_eq!(say(&mut gate, "N T4 ABCD 7 B 1 100"), "N T4 R 10 0");
+        assert_eq!(say(&mut gate, "R R2 ABCD"), "R R2 P 0 0");
+        assert_eq!(say(&mut gate, "N T5 ABCD 7 B 1 100"), "N T5 R 31 0");
+        assert_eq!(say(&mut gate, request), refused);
     }
 }
 
@@ -133,7 +254,7 @@ fn order_of_checks_in_n() {
     assert_eq!(say(&mut gate, "N T4 ABCD 7 B 11 999950"), "N T4 R 12 0");
     assert_eq!(say(&mut gate, "N T5 ABCD 7 B 10 999950"), "N T5 R 13 0");
     assert_eq!(say(&mut gate, "N T6 ABCD 7 B 10 999900"), "N T6 R 14 0");
-    assert_eq!(say(&mut gate, "N T7 ABCD 7 B 10 100"), "N T7 R 15 0");
+    assert_eq!(say(&mut gate, "N T7 ABCD 7 B 10 100"), "N T7 R 33 0");
     assert_eq!(say(&mut gate, "N T2 ABCD 7 H 11 999950"), "N T2 R 10 0");
     assert_eq!(say(&mut gate, "N T2 ABCD 7 S 11 999950"), "N T2 R 6 0");
 }
@@ -162,7 +283,7 @@ fn order_of_checks_in_m_and_c() {
     assert_eq!(say(&mut gate, "M M8 ABCD T1 6 1"), "M M8 R 13 0");
     assert_eq!(say(&mut gate, "M M9 ABCD T1 6 999900"), "M M9 R 14 0");
     assert_eq!(say(&mut gate, "Q 4 7 0 0"), "Q 4 K 0 0");
-    assert_eq!(say(&mut gate, "M MA ABCD T1 7 500100"), "M MA R 15 0");
+    assert_eq!(say(&mut gate, "M MA ABCD T1 7 500100"), "M MA R 33 0");
     assert_eq!(say(&mut gate, "M MB ABCD T1 7 500000"), "M MB P 0 1");
     assert_eq!(close(&gate, 0), "E ABCD 500 0 1000000 0 N");
     assert_eq!(say(&mut gate, "B B3 ABCD"), "B B3 P 0 0");
@@ -209,7 +330,7 @@ fn fills_at_the_ceiling() {
     }
     assert_eq!(close(&gate, 0), "E ABCD 0 3999999999996000000 0 0 N");
     assert_eq!(say(&mut gate, "N T5 ABCD 7 B 2 1000000"), "N T5 P 0 1");
-    assert_eq!(say(&mut gate, "N T6 ABCD 7 B 1 2010000"), "N T6 R 15 0");
+    assert_eq!(say(&mut gate, "N T6 ABCD 7 B 1 2010000"), "N T6 R 35 0");
     assert_eq!(say(&mut gate, "F 5 ABCD T5 1 3000001"), "F 5 A 20 0");
     assert_eq!(say(&mut gate, "F 5 ABCD T5 1 3000000"), "F 5 S 0 0");
     assert_eq!(say(&mut gate, "F 6 ABCD T5 1 3000000"), "F 6 K 0 0");
@@ -227,7 +348,7 @@ fn a_fill_or_reduction_sets_the_block() {
     assert_eq!(say(&mut gate, "R R1 ABCD"), "R R1 P 0 0");
     assert_eq!(say(&mut gate, "H 3 ABCD T1"), "H 3 K 0 0");
     assert_eq!(close(&gate, 0), "E ABCD 1001 0 80000 0 N");
-    assert_eq!(say(&mut gate, "N T2 ABCD 7 B 1 100"), "N T2 R 15 0");
+    assert_eq!(say(&mut gate, "N T2 ABCD 7 B 1 100"), "N T2 R 31 0");
     assert_eq!(say(&mut gate, "D 4 ABCD T1 1"), "D 4 K 0 0");
     assert_eq!(close(&gate, 0), "E ABCD 1001 0 70000 0 Y");
     // A retried R lifts nothing.

@@ -51,10 +51,10 @@ Q 1 K 0 0
 N T1 P 0 1
 N T1 P 0 0
 N T1 R 6 0
-N T2 R 15 0
+N T2 R 33 0
 F 2 K 0 0
 F 2 S 0 0
-N T2 R 15 0
+N T2 R 33 0
 D 4 R 18 0
 C T3 P 0 1
 D 3 K 0 0

@@ -256,11 +256,15 @@ fn key_and_request_rules() {
     for word in [0, 66 << 8, 78 + 256, 70] {
         breaks(&[(request(5, 0), word)], "a kind is one of the five");
     }
-    for word in [1, 7, 18, 256, u64::MAX] {
-        breaks(&[(request(5, 1), word)], "a remembered number is 0 or 8 to 17");
+    // Of 8 to 17 without 15, and 31 to 36 (document 02, order 1).
+    for row in 0..6 {
+        for word in [1, 7, 15, 18, 19, 20, 21, 22, 30, 37, 256, 256 + 33, 1 << 33, u64::MAX] {
+            let rule = "a remembered number is 0, 8 to 14, 16, 17 or 31 to 36";
+            breaks(&[(request(row, 1), word)], rule);
+        }
     }
     for row in 1..6 {
-        for word in 8..=17 {
+        for word in [8, 9, 10, 11, 12, 13, 14, 16, 17, 31, 32, 33, 34, 35, 36] {
             keeps(&[(request(row, 1), word)]);
         }
     }
@@ -314,7 +318,7 @@ fn order_rules() {
         }
     }
     // A passed N made a refused one: its figures are no longer an order's.
-    breaks(&[(request(0, 1), 15)], "the figures of a place that is no passed N are 0");
+    breaks(&[(request(0, 1), 33)], "the figures of a place that is no passed N are 0");
     // A side changed: the value is on the wrong side.
     breaks(&[(request(0, 6), u64::from(b'E'))], "open values are the sums over the table");
     keeps(&[(request(0, 6), u64::from(b'E')), (group(0, 12), 0), (group(0, 13), 15 * 1_010_000)]);
@@ -370,10 +374,11 @@ fn valid_states_that_are_odd() {
     assert_eq!(answer(&mut mem, "Q 4294967295 7 1 2"), "Q 4294967295 K 0 0");
     assert_eq!((mem[1], mem[symbol(0, 1)], mem[symbol(0, 2)]), (4_294_967_295, 1, 2));
 
-    // A metric that is above its limit already: N is 15, a D books and blocks.
+    // A metric that is above its limit already: N is 31, a D books and blocks.
     let mut mem = base();
     mem[group(0, 10)] = 1_000_000_001;
-    assert_eq!(answer(&mut mem, "N T7 ABCD 7 B 1 1000000"), "N T7 R 15 0");
+    assert_eq!(answer(&mut mem, "N T7 ABCD 7 B 1 1000000"), "N T7 R 31 0");
+    assert_eq!((mem[request(6, 0)], mem[request(6, 1)]), (u64::from(b'N'), 31));
     assert_eq!(answer(&mut mem, "D 3 ABCD T1 1"), "D 3 K 0 0");
     assert_eq!((mem[group(0, 9)], mem[order(0, 2)], mem[group(0, 12)]), (1, 6, 14 * 1_010_000));
 
@@ -387,9 +392,10 @@ fn valid_states_that_are_odd() {
     }
     // Remembered numbers are given again as they stand.
     let mut mem = base();
-    (mem[request(4, 1)], mem[request(3, 1)]) = (17, 8);
+    (mem[request(4, 1)], mem[request(3, 1)], mem[request(2, 1)]) = (17, 8, 36);
     assert_eq!(answer(&mut mem, "B T5 WXYZ"), "B T5 R 17 0");
     assert_eq!(answer(&mut mem, "C T4 ABCD T1"), "C T4 R 8 0");
+    assert_eq!(answer(&mut mem, "M T3 ABCD T1 20 1010000"), "M T3 R 36 0");
     assert_eq!(answer(&mut mem, "R T6 WXYZ"), "R T6 P 0 0");
 
     // At the ceiling with limits at the ceiling: nothing more passes, nothing wraps.
@@ -400,7 +406,7 @@ fn valid_states_that_are_odd() {
     mem[group(0, 7)] = 1_000_000;
     mem[group(0, 10)] = CEILING - 15 * 1_010_000;
     mem[order(0, 3)] = 0;
-    assert_eq!(answer(&mut mem, "N T7 ABCD 9 S 1000000 999999990000"), "N T7 R 15 0");
+    assert_eq!(answer(&mut mem, "N T7 ABCD 9 S 1000000 999999990000"), "N T7 R 35 0");
     assert_eq!(answer(&mut mem, "M T8 ABCD T1 20 1010000"), "M T8 P 0 1");
     assert_eq!(answer(&mut mem, "F 3 ABCD T1 1 1010001"), "F 3 A 20 0");
     assert_eq!(answer(&mut mem, "F 4 ABCD T1 15 1010000"), "F 4 K 0 0");

@@ -263,7 +263,7 @@ impl Hand<'_> {
 
     /// An M that does.
     pub(super) fn at_limit_change(&mut self) {
-        let Some((place, order)) = self.open_order() else {
+        let Some((place, order)) = self.free_order() else {
             return;
         };
         let Some(group) = self.book.group(place.mpid) else {
@@ -274,7 +274,9 @@ impl Hand<'_> {
         let which = self.limited(group, &[2, 3, 4, 5]);
         let target = self.limit(group, which);
         let missing = metric(&without, which).missing(sign(order.side), target);
-        let value = self.rng.pick(&missing);
+        // Mostly the one that an order can have.
+        let likely = missing[0].max(missing[1]);
+        let value = if self.rng.chance(80) { likely } else { self.rng.pick(&missing) };
         let most = group.most_size.saturating_sub(order.done);
         let Some((size, price)) = self.order_parts(value, most) else {
             return;
@@ -324,6 +326,34 @@ impl Hand<'_> {
             let most = (missing[0] / i128::from(MOST_PRICE)).clamp(1, i128::from(left)) as u64;
             self.push_fill(number, place.mpid, &place.id, most, MOST_PRICE);
         }
+    }
+
+    /// A group above a trade limit with its block removed, and a change of an open order. If it
+    /// is not above, a fill of one share brings it there.
+    pub(super) fn above_limit_freed(&mut self) {
+        let Some((place, order)) = self.free_order() else {
+            return;
+        };
+        let Some(group) = self.book.group(place.mpid) else {
+            return;
+        };
+        // A net that has a lower limit than the gross can pass it alone.
+        let net_first = group.limits[1] < group.limits[0] && self.rng.chance(70);
+        let which = if net_first { 1 } else { self.limited(group, &[0, 1]) };
+        let above = i128::from(group.limits[which]) + self.rng.pick(&[1, 1, 2, 10_000_000]);
+        let mut done = order.done;
+        if group.metrics()[which] < above {
+            let [one, other] = metric(group, which).missing(sign(order.side), above);
+            let price = one.max(other).clamp(1, MOST_PRICE.into()) as u64;
+            let number = self.next_notice();
+            self.push_fill(number, place.mpid, &place.id, 1, price);
+            done += 1;
+        }
+        self.unquote(order.symbol);
+        self.block_of(b'R', group.mpid);
+        let size = self.rng.between(done + 1, group.most_size).min(MOST_SIZE);
+        let price = if self.rng.chance(50) { order.price } else { 100 };
+        self.push_change(place.mpid, &place.id, size, price);
     }
 
     /// A D that brings a net to its limit or next to it.

@@ -4,6 +4,7 @@
 
 use std::collections::{HashMap, VecDeque};
 
+use crate::books::remembered;
 use crate::gate::Answer;
 
 /// A listed group. Pairs are buys and sells.
@@ -156,7 +157,7 @@ impl Book {
                 }
             }
             b'P' if matches!(fields.kind(), b'G' | b'S' | b'O') => self.note_setup(&fields),
-            b'P' | b'R' if answer.outcome == b'P' || (8..=17).contains(&answer.number) => {
+            b'P' | b'R' if remembered(answer.number.into()) => {
                 let (id, mpid) = (fields.text(1).to_vec(), four(fields.text(2)));
                 let line = line.to_vec();
                 let new = self.add_place(Place { mpid, id, line, order: None });

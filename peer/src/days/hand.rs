@@ -120,6 +120,12 @@ impl<'a> Hand<'a> {
         None
     }
 
+    /// The same with no cancel asked, if a few draws find one.
+    pub fn free_order(&mut self) -> Option<(&'a Place, &'a Order)> {
+        let mut draws = (0..6).map_while(|_| self.open_order());
+        draws.find(|(_, order)| !order.asked)
+    }
+
     /// An MPID and a target: mostly an open order of its own.
     pub fn target(&mut self) -> ([u8; 4], Vec<u8>, Option<&'a Order>) {
         let open = self.open_order();

@@ -66,6 +66,7 @@ impl Hand<'_> {
             Act::AimChange => self.at_limit_change(),
             Act::AimFill => self.at_limit_fill(),
             Act::AimReduce => self.at_limit_reduce(),
+            Act::AimFreed => self.above_limit_freed(),
             Act::Setup => match self.rng.below(3) {
                 0 => self.setup_group(),
                 1 => self.setup_symbol(),

@@ -132,9 +132,15 @@ impl Days {
         let r = &mut self.random;
         let text = match r.below(12) {
             0..=4 => {
-                let free = r.below(2) == 0;
+                // No limits, one alone, or some.
+                let (way, alone) = (r.below(6), r.below(6));
                 let limits: Vec<String> = (0..6)
-                    .map(|_| if free || r.below(4) > 0 { CEILING } else { r.pick(&LIMITS) })
+                    .map(|place| match way {
+                        0 => CEILING,
+                        1..=4 if place != alone => CEILING,
+                        5 if r.below(4) > 0 => CEILING,
+                        _ => r.pick(&LIMITS),
+                    })
                     .map(|limit| limit.to_string())
                     .collect();
                 let size = r.pick(&[100, 25_000, 1_000_000]);

@@ -45,7 +45,10 @@ fn edge(rng: &mut Rng, room: usize) -> u64 {
         1,
         2,
         8,
+        14,
         17,
+        31,
+        36,
         64,
         256,
         2_147_483_648,
@@ -185,6 +188,10 @@ pub fn book_order(words: &mut [u64], place: usize, back: bool) {
     }
 }
 
+/// Remembered numbers, and those next to them.
+const REMEMBERED: [u64; 20] =
+    [0, 7, 8, 8, 9, 14, 15, 16, 17, 17, 18, 30, 31, 31, 32, 33, 34, 35, 36, 37];
+
 /// Another remembered number, with figures and totals that go with it.
 fn remember(rng: &mut Rng, words: &mut [u64]) -> Option<usize> {
     let (room, places) = (memory::room(words.len()), Region::Key.used(words));
@@ -193,7 +200,7 @@ fn remember(rng: &mut Rng, words: &mut [u64]) -> Option<usize> {
     }
     let place = rng.index(places);
     book_order(words, place, false);
-    words[Region::Request.at(room, place, 1)] = rng.pick(&[0, 7, 8, 8, 9, 15, 17, 17, 18]);
+    words[Region::Request.at(room, place, 1)] = rng.pick(&REMEMBERED);
     let order = Region::Order.at(room, place, 0);
     if words[Region::Request.at(room, place, 1)] != 0 {
         words[order..order + 4].fill(0);

@@ -89,9 +89,8 @@ impl Peer {
             return Answered::refused(21);
         }
         let mut line = Vec::with_capacity(32);
-        let answer = self.gate.record(&step.line, &mut line);
+        let answer = self.wrong.record(&mut self.gate, self.words, &step.line, &mut line);
         counts.add(line[0], &answer);
-        self.wrong.answer(&answer, &mut line);
         Answered::line(line)
     }
 

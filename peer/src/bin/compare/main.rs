@@ -1,4 +1,4 @@
-//! Holds the proved gate's static library against this crate's reading of document 01: the
+//! Holds the proved gate's static library against this crate's reading of the documents: the
 //! same lines, the same memories, the same buffers on both sides.
 //!
 //!     compare --worker PROGRAM [--through SCRIPT] [--jobs N] [--to FILE]
@@ -132,11 +132,13 @@ fn compare(
     let (good, refused) = (tally.good, tally.refused_all());
     println!("{good:8}  none");
     println!("records on memories by number:");
-    for (number, n) in tally.numbers.iter().enumerate() {
-        print!("{number:8} {n:7}{}", if number % 6 == 5 { "\n" } else { "" });
+    let numbers: Vec<String> =
+        tally.numbers.iter().map(|(number, n)| format!("{number:8} {n:7}")).collect();
+    for row in numbers.chunks(6) {
+        println!("{}", row.concat());
     }
     println!(
-        "\n{records} records in {} days, {memories} memories ({good} good, {refused} refused), \
+        "{records} records in {} days, {memories} memories ({good} good, {refused} refused), \
          {} buffer lengths, {} line lengths, {seconds} s, seed {seed}: no difference",
         work.days,
         lengths::MOST_BUFFER + 1,

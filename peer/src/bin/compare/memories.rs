@@ -4,6 +4,7 @@ use std::collections::BTreeMap;
 
 use peer::memory;
 
+use crate::count::numbers;
 use crate::map;
 use crate::worker::{Answered, Command, Reply, Worker};
 use crate::wrong::Wrong;
@@ -30,13 +31,20 @@ pub struct Variant {
 }
 
 /// What memories were like.
-#[derive(Clone, Default)]
+#[derive(Clone)]
 pub struct Tally {
     pub good: u64,
     /// By the first rule that is broken.
     pub refused: BTreeMap<&'static str, u64>,
-    /// Answers by number: 0, 1 to 20, 21, 22.
-    pub numbers: [u64; 23],
+    /// Answers by number: 0, those that a record can be given, 21 and 22.
+    pub numbers: BTreeMap<u8, u64>,
+}
+
+impl Default for Tally {
+    fn default() -> Tally {
+        let numbers = numbers().chain([0, 21, 22]).map(|number| (number, 0)).collect();
+        Tally { good: 0, refused: BTreeMap::new(), numbers }
+    }
 }
 
 impl Tally {
@@ -45,8 +53,8 @@ impl Tally {
         for (rule, n) in &other.refused {
             *self.refused.entry(rule).or_default() += n;
         }
-        for (cell, n) in self.numbers.iter_mut().zip(other.numbers) {
-            *cell += n;
+        for (&number, n) in &other.numbers {
+            *self.numbers.entry(number).or_default() += n;
         }
     }
 
@@ -64,11 +72,9 @@ impl Tally {
                 let field = record.bytes.split(|&b| b == b'\t').nth(3).unwrap_or_default();
                 String::from_utf8_lossy(field).parse().unwrap_or(0)
             }
-            refused => -refused,
+            refused => refused.unsigned_abs() as u8,
         };
-        if let Some(cell) = self.numbers.get_mut(number as usize) {
-            *cell += 1;
-        }
+        *self.numbers.entry(number).or_default() += 1;
     }
 }
 

@@ -19,6 +19,9 @@ pub const VARIANTS: usize = 25;
 /// The lengths that are gone through one by one.
 pub const LENGTHS: usize = 1_721;
 
+/// How often each number was met.
+type Met = [u64; 256];
+
 /// What a base is.
 #[derive(Clone, Copy)]
 pub enum Kind {
@@ -62,7 +65,7 @@ pub fn make(seed: u64, index: u64, kind: Kind, variants: usize) -> Batch {
     if rng.chance(20) {
         mode |= LINE_READ_ONLY;
     }
-    let mut met = [0; 32];
+    let mut met = [0; 256];
     let variants = (0..variants).map(|i| variant(&mut rng, &base, kind, i, &mut met)).collect();
     Batch { mode, pattern: rng.pick(b"\xAA\x00\xFF\n0"), base, variants }
 }
@@ -142,7 +145,7 @@ fn random(rng: &mut Rng, room: usize) -> Vec<u64> {
 }
 
 /// `met` is how often a number was met in this batch.
-fn variant(rng: &mut Rng, base: &[u64], kind: Kind, i: usize, met: &mut [u64; 32]) -> Variant {
+fn variant(rng: &mut Rng, base: &[u64], kind: Kind, i: usize, met: &mut Met) -> Variant {
     let mut words = base.to_vec();
     let mut count = base.len();
     let mut focus = None;
@@ -205,7 +208,7 @@ fn twice_wrong(rng: &mut Rng, place: &Place, book: &Book) -> Option<Vec<u8>> {
 }
 
 /// A line for these words; of a few, the one whose number was met least.
-fn line(rng: &mut Rng, words: &[u64], book: &Book, met: &mut [u64; 32]) -> Vec<u8> {
+fn line(rng: &mut Rng, words: &[u64], book: &Book, met: &mut Met) -> Vec<u8> {
     let mut draw = || {
         let style = &STYLES[rng.index(STYLES.len())];
         propose(book, style, rng).pop().unwrap_or_else(|| b"O\n".to_vec())

@@ -5,17 +5,20 @@ use std::path::Path;
 use std::process::ExitCode;
 use std::time::Duration;
 
+use crate::count::numbers;
 use crate::run::{self, Case, Settings, Work};
 use crate::worker::Program;
 use crate::wrong::Wrong;
 
 /// What is wrong on the peer's side.
 fn peer_side() -> Vec<(Wrong, String)> {
-    let numbers = (1..=20).map(|n| (Wrong::Number(n), format!("number {n} answered as {}", n + 1)));
+    let numbers =
+        numbers().map(|n| (Wrong::Number(n), format!("number {n} answered as {}", n + 1)));
     let letters = b"PKSRA"
         .iter()
         .map(|&o| (Wrong::Outcome(o), format!("outcome {} answered as another", char::from(o))));
     let others = [
+        (Wrong::Last, "the last metric above its limit given instead of the first"),
         (Wrong::Sent, "a request to be sent answered as not to be sent"),
         (Wrong::Buffer, "a buffer of 31 bytes taken"),
         (Wrong::Word, "a traded value one too much in the words"),

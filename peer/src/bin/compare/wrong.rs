@@ -1,9 +1,15 @@
 //! Ways in which the peer's side can be made wrong on purpose, to see that it is noticed.
 
-use peer::gate::Answer;
+use std::ops::RangeInclusive;
+
+use peer::days::CEILING;
+use peer::gate::{Answer, Gate};
 use peer::memory;
 
 use crate::map::Region;
+
+/// The numbers of the six metrics.
+const METRICS: RangeInclusive<u8> = 31..=36;
 
 /// What is wrong.
 #[derive(Clone, Copy, PartialEq, Eq, Debug)]
@@ -13,6 +19,8 @@ pub enum Wrong {
     Number(u8),
     /// This outcome is answered as another.
     Outcome(u8),
+    /// Of the metrics above their limits the last is given instead of the first.
+    Last,
     /// A request that is to be sent is answered as not to be sent.
     Sent,
     /// A buffer of 31 bytes is taken for long enough.
@@ -31,17 +39,24 @@ impl Wrong {
         32 - usize::from(self == Wrong::Buffer)
     }
 
-    /// Changes an answer line.
-    pub fn answer(self, answer: &Answer, line: &mut Vec<u8>) {
-        let (field, text) = match self {
-            Wrong::Number(n) if answer.number == n => (3, (n + 1).to_string().into_bytes()),
-            Wrong::Outcome(o) if answer.outcome == o => (2, vec![o ^ 1]),
-            Wrong::Sent if answer.sent => (4, b"0\n".to_vec()),
-            _ => return,
+    /// Has a gate with so many words judge a line, and changes the answer line.
+    pub fn record(self, gate: &mut Gate, words: usize, line: &[u8], to: &mut Vec<u8>) -> Answer {
+        let before = (self == Wrong::Last).then(|| gate.clone());
+        let answer = gate.record(line, to);
+        let number = |number: u8| (3, number.to_string().into_bytes());
+        let (field, text) = match (self, before) {
+            (Wrong::Number(n), _) if answer.number == n => number(n + 1),
+            (_, Some(before)) if METRICS.contains(&answer.number) => {
+                number(last_metric(&before, words, line))
+            }
+            (Wrong::Outcome(o), _) if answer.outcome == o => (2, vec![o ^ 1]),
+            (Wrong::Sent, _) if answer.sent => (4, b"0\n".to_vec()),
+            _ => return answer,
         };
-        let mut fields: Vec<&[u8]> = line.split(|&b| b == b'\t').collect();
+        let mut fields: Vec<&[u8]> = to.split(|&b| b == b'\t').collect();
         fields[field] = &text;
-        *line = fields.join(&b'\t');
+        *to = fields.join(&b'\t');
+        answer
     }
 
     /// Changes a closing line.
@@ -62,6 +77,24 @@ impl Wrong {
     /// Whether the words meet the state rules.
     pub fn state_ok(self, words: &[u64]) -> bool {
         memory::state_ok(words) || (self == Wrong::Sums && memory::state_ok(&with_sums(words)))
+    }
+}
+
+/// The last metric that refuses this line: each that does has its limit lifted in turn.
+fn last_metric(gate: &Gate, words: usize, line: &[u8]) -> u8 {
+    let mut words = vec![0; words];
+    memory::store(gate, &mut words);
+    let mut last = 0;
+    loop {
+        let number = memory::load(&words).record(line, &mut Vec::new()).number;
+        if number == last || !METRICS.contains(&number) {
+            return last;
+        }
+        last = number;
+        let limit = usize::from(number - METRICS.start() + 1);
+        for group in 0..Region::Group.used(&words) {
+            words[Region::Group.at(0, group, limit)] = CEILING;
+        }
     }
 }
 
@@ -89,4 +122,24 @@ fn with_sums(words: &[u64]) -> Vec<u64> {
         words[Region::Group.at(room, group, 13)] = open[1];
     }
     words
+}
+
+#[cfg(test)]
+mod tests {
+    use super::*;
+
+    #[test]
+    fn the_last_metric_is_given() {
+        for (wrong, expected) in [(Wrong::No, "33"), (Wrong::Last, "36"), (Wrong::Number(33), "34")]
+        {
+            let mut gate = Gate::new(1);
+            let mut to = Vec::new();
+            for line in ["G\tABCD\t0\t0\t0\t0\t0\t0\t1\tN\n", "S\t7\n", "O\n"] {
+                wrong.record(&mut gate, memory::words(1), line.as_bytes(), &mut to);
+            }
+            to.clear();
+            wrong.record(&mut gate, memory::words(1), b"N\tT1\tABCD\t7\tB\t1\t100\n", &mut to);
+            assert_eq!(to, format!("N\tT1\tR\t{expected}\t0\n").into_bytes());
+        }
+    }
 }
