@@ -18,18 +18,18 @@ overs n (l ∷ ls) [] = []
 overs n (l ∷ ls) (m ∷ ms) = (ltb l m ⇒ n) ∷ overs (suc n) ls ms
 
 -- each of the first i metrics is at most its limit
-abbrev Within : ℕ → List ℕ → List ℕ → Type 0
+abbrev pub Within : ℕ → List ℕ → List ℕ → Type 0
 Within i ls ms = (j : ℕ) → j < i → getD ms j 0 ≤ getD ls j 0
 
 -- the i-th is above its limit, and none before it
-abbrev FirstOver : ℕ → List ℕ → List ℕ → Type 0
+abbrev pub FirstOver : ℕ → List ℕ → List ℕ → Type 0
 FirstOver i ls ms = (getD ls i 0 < getD ms i 0) × Within i ls ms
 
 within-cons : (i l m : ℕ) (ls ms : List ℕ) → m ≤ l → Within i ls ms → Within (suc i) (l ∷ ls) (m ∷ ms)
 within-cons i l m ls ms h w zero k = h
 within-cons i l m ls ms h w (suc j) k = w j (omega (arith, k))
 
--- none is 0, or before the first
+-- below their first number nothing is given, but 0
 no-other : (n k : ℕ) (ls ms : List ℕ) → 0 < n → n < k → first (overs k ls ms) ≡ n → ⊥
 unfolding first
 no-other n k [] ms p q e = omega (arith, e)
