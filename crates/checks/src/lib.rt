@@ -1,6 +1,6 @@
 // Document 01's per-order checks and limits, each list in its order.
 ghost use mathlib.Core.Path.{_≡_};
-ghost use Prim.Native.Nat.{_+_, _-_, _≤_, _<_};
+ghost use Prim.Native.Nat.{_-_, _≤_, _<_};
 ghost use lib.ListN.{length};
 ghost use Rattle.rulebook.specs.Prices.{tick, bad-price, rows, row-in, too-far, off-market};
 ghost use Rattle.rulebook.specs.Lines.{is-buy};
