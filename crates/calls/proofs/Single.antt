@@ -7,7 +7,8 @@ use Rattle.calls.proofs.record.Reads as record-reads
 use Rattle.calls.proofs.closing.Kinds as closing-kinds
 use Rattle.calls.proofs.closing.Reads as closing-reads
 use Rattle.fields.proofs.Single.{Once}
-use Rattle.calls.specs.Calling.{Said, answer-said, closing-said, Recorded, Closing}
+use Rattle.fields.specs.Out.{Said}
+use Rattle.calls.specs.Calling.{answer-said, closing-said, Recorded, Closing}
 use Rattle.calls.specs.declared.Answered.{Answered}
 use Rattle.calls.specs.declared.Closed.{Closed}
 

@@ -1,15 +1,16 @@
 -- Document 01, "Outcomes" and "A whole day": what the public calls answer, and the memory and the buffer after each.
 use mathlib.Core.Bool.{not, cond}
 use mathlib.Core.Option.{Option, Option·elim}
-use mathlib.Core.List.{List, [], _∷_, _++_}
+use mathlib.Core.List.{List, [], _∷_}
 use Prim.Native.Nat.{ℕ}
 use Prim.Native.Char.{code}
 use lib.Dec.{ltb, eqb}
-use lib.ListN.{length, drop, getElem?}
+use lib.ListN.{length, getElem?}
 use Rattle.laws.specs.Checks.{Check, _⇒_, first}
 use Rattle.rulebook.specs.Lines.{Record}
 use Rattle.rulebook.specs.Kept.{Group, tally}
 use Rattle.rulebook.specs.Judging.{Verdict, judge}
+use Rattle.fields.specs.Out.{Said, refuses, begun}
 use Rattle.codec.specs.Readings.{record-of, reading}
 use Rattle.answers.specs.Answering.{answer-bytes, closing-bytes}
 use Rattle.books.specs.View.{view}
@@ -19,14 +20,6 @@ use Rattle.calls.specs.declared.Answered.{Answered}
 use Rattle.calls.specs.declared.Closed.{Closed}
 
 -- ── what a call says ──
--- a number of document 01 and no byte, or 0 and how many bytes were written
-pub record Said : Type 0 where
-  pub number : ℕ
-  pub bytes : ℕ
-
-abbrev pub refuses : ℕ → Said
-refuses n = record { number = n; bytes = 0 }
-
 abbrev pub wrote : List ℕ → Said
 wrote cs = record { number = 0; bytes = length cs }
 
@@ -44,10 +37,6 @@ closing-said Closed.Unlisted = refuses 5
 -- "21, 22": a buffer under so many bytes, a lent state that breaks a state rule or is too short
 abbrev pub refusals : ℕ → List ℕ → List ℕ → List Check
 refusals least m b = (ltb (length b) least ⇒ 21) ∷ (not (state-ok m) ⇒ 22) ∷ []
-
--- a buffer that begins with these bytes, and past them is as it was found
-abbrev pub begun : List ℕ → List ℕ → List ℕ
-begun cs b = cs ++ drop (length cs) b
 
 -- ── one record ──
 -- the record that a lent line says

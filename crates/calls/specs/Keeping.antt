@@ -14,7 +14,7 @@ use Rattle.rulebook.specs.Outcomes.{answer-line, closing-line}
 use Rattle.rulebook.specs.Day.{step}
 use Rattle.fields.specs.Forms.{IsLine}
 use Rattle.fields.specs.Out as out
-use Rattle.fields.specs.Out.{Left, left, room-number}
+use Rattle.fields.specs.Out.{Left, left, room-number, refuses, begun}
 use Rattle.fields.specs.Puts.{room}
 use Rattle.fields.specs.declared.Written.{Written}
 use Rattle.fields.specs.declared.Written.the-variants.{Bytes, NoRoom}
@@ -28,7 +28,7 @@ use Rattle.books.specs.Kept.{kept}
 use Rattle.store.specs.Making.{made-words, fresh-valid}
 use Rattle.rules.specs.Testing.{state-ok}
 use Rattle.rules.specs.Meaning.{exactly}
-use Rattle.calls.specs.Calling.{refuses, wrote, begun, said-by, verdict-on, answer-to, Recorded, record-left, recorded, group-at, closing-left, closing-of, closed}
+use Rattle.calls.specs.Calling.{wrote, said-by, verdict-on, answer-to, Recorded, record-left, recorded, group-at, closing-left, closing-of, closed}
 
 -- ── a line that has room is written whole ──
 abbrev pub count-of : Written → ℕ

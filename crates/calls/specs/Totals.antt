@@ -20,7 +20,8 @@ use Rattle.store.specs.declared.Closing.{Closing as Shown}
 use Rattle.store.specs.declared.Closing.the-variants.{Totals, Unlisted}
 use Rattle.rules.specs.Testing.{state-ok}
 use Rattle.rules.specs.Meaning.{exactly}
-use Rattle.calls.specs.Calling.{refuses, wrote, begun, Closing, closing-left, group-at, closing-of, closed}
+use Rattle.fields.specs.Out.{refuses, begun}
+use Rattle.calls.specs.Calling.{wrote, Closing, closing-left, group-at, closing-of, closed}
 use Rattle.calls.specs.Keeping.{closing-written}
 
 -- what is left for totals

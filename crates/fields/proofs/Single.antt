@@ -14,6 +14,8 @@ use Rattle.fields.proofs.part.Kinds as part-kinds
 use Rattle.fields.proofs.part.Reads as part-reads
 use Rattle.fields.proofs.takes_byte.Kinds as takes-byte-kinds
 use Rattle.fields.proofs.takes_byte.Reads as takes-byte-reads
+use Rattle.fields.proofs.is_text.Kinds as is-text-kinds
+use Rattle.fields.proofs.is_text.Reads as is-text-reads
 use Rattle.fields.proofs.identifier_at.Kinds as identifier-at-kinds
 use Rattle.fields.proofs.identifier_at.Reads as identifier-at-reads
 use Rattle.fields.proofs.mpid_at.Kinds as mpid-at-kinds
@@ -36,6 +38,8 @@ use Rattle.fields.proofs.is_ended.Kinds as is-ended-kinds
 use Rattle.fields.proofs.is_ended.Reads as is-ended-reads
 use Rattle.fields.proofs.put.Kinds as put-kinds
 use Rattle.fields.proofs.put.Reads as put-reads
+use Rattle.fields.proofs.put_all.Kinds as put-all-kinds
+use Rattle.fields.proofs.put_all.Reads as put-all-reads
 use Rattle.fields.proofs.put_text.Kinds as put-text-kinds
 use Rattle.fields.proofs.put_text.Reads as put-text-reads
 use Rattle.fields.proofs.put_number.Kinds as put-number-kinds
@@ -65,6 +69,9 @@ part-once κs a x y s t p q = p ∙ sym q
 
 takes-byte-once : Once 0 takes-byte-kinds.ps takes-byte-kinds.r takes-byte-reads.Post (λ κs x s. x)
 takes-byte-once κs a x y s t p q = p ∙ sym q
+
+is-text-once : Once 1 is-text-kinds.ps is-text-kinds.r is-text-reads.Post (λ κs x s. x)
+is-text-once κs a x y s t p q = p ∙ sym q
 
 identifier-at-once : Once 1 identifier-at-kinds.ps identifier-at-kinds.r identifier-at-reads.Post (λ κs x s. x)
 identifier-at-once κs a x y s t p q = p ∙ sym q
@@ -98,6 +105,9 @@ is-ended-once κs a x y s t p q = p ∙ sym q
 
 put-once : Once 1 put-kinds.ps put-kinds.r put-reads.Post (λ κs x s. out (s .0 .now) x)
 put-once κs a x y s t p q = p ∙ sym q
+
+put-all-once : Once 2 put-all-kinds.ps put-all-kinds.r put-all-reads.Post (λ κs x s. out (s .0 .now) x)
+put-all-once κs a x y s t p q = p ∙ sym q
 
 put-text-once : Once 2 put-text-kinds.ps put-text-kinds.r put-text-reads.Post (λ κs x s. out (s .0 .now) x)
 put-text-once κs a x y s t p q = p ∙ sym q

@@ -21,6 +21,20 @@ put-byte s c = cond (ltb (s .at) (length (s .buffer))) (out (set (s .buffer) (s 
 unfoldable pub puts : Out → List ℕ → Out
 puts s cs = foldl put-byte s cs
 
+-- ── what a call says ──
+-- a number of the documents and no byte, or 0 and how many bytes were written
+pub record Said : Type 0 where
+  pub number : ℕ
+  pub bytes : ℕ
+
+abbrev pub refuses : ℕ → Said
+refuses n = record { number = n; bytes = 0 }
+
+-- a buffer that begins with these bytes, and past them is as it was found
+abbrev pub begun : List ℕ → List ℕ → List ℕ
+begun cs b = cs ++ drop (length cs) b
+
+-- ── lines ──
 -- what a writer leaves: the buffer, and what it says
 pub record Left : Type 0 where
   pub buffer : List ℕ

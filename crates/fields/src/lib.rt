@@ -250,7 +250,8 @@ fn takes_all(kind: u8, f: &[u8]) -> bool
     true
 }
 
-fn is_text(f: &[u8], kind: u8, least: usize, most: usize) -> bool
+// Whether bytes are a text of so many bytes, each of which the form of this number takes.
+pub fn is_text(f: &[u8], kind: u8, least: usize, most: usize) -> bool
     ensures { λ r. ⌜ r ≡ has-form (text least most (takes (form kind)) unnamed) (now (f .entry)) ⌝ }
 {
     let n = f.len();
@@ -416,7 +417,8 @@ pub fn put(to: &mut [u8], at: usize, b: u8) -> usize
     to.len() + 1
 }
 
-fn put_all(to: &mut [u8], at: usize, f: &[u8]) -> usize
+// Bytes one after the other, where they have room.
+pub fn put_all(to: &mut [u8], at: usize, f: &[u8]) -> usize
     ensures { λ r. ⌜ out (now (to .exit)) r ≡ puts (out (now (to .entry)) at) (now (f .entry)) ⌝ }
 {
     let mut e = at;

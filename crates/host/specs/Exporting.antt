@@ -7,7 +7,7 @@ use lib.IntN.{ℤ, pos, negsuc, negℤ}
 use Rattle.laws.specs.Checks.{_⇒_, first}
 use Rattle.books.specs.Layout.{least-words, place-words}
 use Rattle.rules.specs.Testing.{state-ok}
-use Rattle.calls.specs.Calling.{Said, refuses}
+use Rattle.fields.specs.Out.{Said, refuses}
 
 -- the bytes that were written, or minus the number of the refusal
 abbrev pub told : Said → ℤ

@@ -12,7 +12,8 @@ use Rattle.laws.specs.Tests.{on, opt}
 use Rattle.laws.specs.Checks.{first}
 use Rattle.books.specs.Layout.{least-words, place-words, room-for}
 use Rattle.rules.specs.Testing.{state-ok}
-use Rattle.calls.specs.Calling.{Said, refuses, wrote, answer-said, closing-said, answer-to, Recorded, record-left, recorded, Closing, closing-left, closing-of, closed, group-at}
+use Rattle.fields.specs.Out.{Said, refuses}
+use Rattle.calls.specs.Calling.{wrote, answer-said, closing-said, answer-to, Recorded, record-left, recorded, Closing, closing-left, closing-of, closed, group-at}
 use Rattle.calls.specs.Keeping.{short-buffer, bad-state, judged-line, answer-written, closing-short-buffer, closing-bad-state, closing-unlisted, closing-line-of, closing-written}
 use Rattle.calls.specs.declared.Answered.{Answered}
 use Rattle.calls.specs.declared.Closed.{Closed}

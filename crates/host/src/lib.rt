@@ -4,7 +4,8 @@
 ghost use mathlib.Core.Path.{_≡_};
 ghost use Rattle.books.specs.Layout.{room-for};
 ghost use Rattle.store.specs.Making.{made, made-words};
-ghost use Rattle.calls.specs.Calling.{refuses, recorded, closed};
+ghost use Rattle.fields.specs.Out.{refuses};
+ghost use Rattle.calls.specs.Calling.{recorded, closed};
 ghost use Rattle.host.specs.Exporting.{told, state-said, words-for};
 use calls::Answered;
 use calls::Closed;

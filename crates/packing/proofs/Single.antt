@@ -4,6 +4,8 @@ use Rattle.packing.proofs.pack_identifier.Kinds as pack-identifier-kind
 use Rattle.packing.proofs.pack_identifier.Reads as pack-identifier-reads
 use Rattle.packing.proofs.pack_mpid.Kinds as pack-mpid-kinds
 use Rattle.packing.proofs.pack_mpid.Reads as pack-mpid-reads
+use Rattle.packing.proofs.pack_number.Kinds as pack-number-kinds
+use Rattle.packing.proofs.pack_number.Reads as pack-number-reads
 use Rattle.packing.proofs.is_identifier.Kinds as is-identifier-kinds
 use Rattle.packing.proofs.is_identifier.Reads as is-identifier-reads
 use Rattle.packing.proofs.is_mpid.Kinds as is-mpid-kinds
@@ -24,6 +26,9 @@ pack-identifier-once κs a x y s t p q = ap words (p ∙ sym q)
 
 pack-mpid-once : Once 1 pack-mpid-kinds.ps pack-mpid-kinds.r pack-mpid-reads.Post (λ κs x s. x)
 pack-mpid-once κs a x y s t p q = p ∙ sym q
+
+pack-number-once : Once 1 pack-number-kinds.ps pack-number-kinds.r pack-number-reads.Post (λ κs x s. x)
+pack-number-once κs a x y s t p q = p ∙ sym q
 
 is-identifier-once : Once 0 is-identifier-kinds.ps is-identifier-kinds.r is-identifier-reads.Post (λ κs x s. x)
 is-identifier-once κs a x y s t p q = p ∙ sym q

@@ -81,6 +81,13 @@ pub fn pack_mpid(line: &[u8], at: Place) -> u64
     pack_word(fields::part(text, Place { from: 0, to: 4 }))
 }
 
+// The number whose bytes a stretch of a message has, the lowest first: of its first eight bytes, where it has more.
+pub fn pack_number(message: &[u8], at: Place) -> u64
+    ensures { λ r. ⌜ r ≡ word (take 8 (said (now (message .entry)) at)) ⌝ }
+{
+    pack_eight(fields::part(message, at), 0)
+}
+
 // Whether the form of this number takes each byte of a word, up to its last that is not 0; true of 0.
 fn takes_word(kind: u8, word: u64) -> bool
     ensures { λ r. ⌜ r ≡ every (takes (form kind)) (spelt 8 word) ⌝ }

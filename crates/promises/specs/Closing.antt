@@ -18,7 +18,8 @@ use Rattle.rulebook.specs.Sums as sums
 use Rattle.rulebook.specs.Sums.{listed, account-run}
 use Rattle.books.specs.View.{view}
 use Rattle.rules.specs.Testing.{state-ok}
-use Rattle.calls.specs.Calling.{refuses, wrote, begun, group-at, closing-of, Closing, closing-left, closed}
+use Rattle.fields.specs.Out.{refuses, begun}
+use Rattle.calls.specs.Calling.{wrote, group-at, closing-of, Closing, closing-left, closed}
 use Rattle.calls.specs.Keeping.{closing-short-buffer, closing-bad-state, closing-unlisted, closing-line-of, closing-written}
 use Rattle.promises.specs.Day.{Sheet, sheet, Closes}
 use Rattle.promises.specs.Showing.{closing-shown}

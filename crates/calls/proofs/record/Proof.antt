@@ -8,7 +8,8 @@ use Rattle.rules.specs.Meaning.{exactly}
 use Rattle.edits.specs.Storing.{valid-last}
 use Rattle.calls.specs.Keeping.{short-buffer, bad-state, judged-line}
 use Rattle.calls.specs.Recording.{told}
-use Rattle.calls.specs.Calling.{answer-said, wrote, begun, record-left}
+use Rattle.fields.specs.Out.{begun}
+use Rattle.calls.specs.Calling.{answer-said, wrote, record-left}
 use Rattle.calls.proofs.record.Tie as tie
 
 returns : tie.Need-returns

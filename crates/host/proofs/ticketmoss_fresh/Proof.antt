@@ -3,7 +3,7 @@ use borrow.Author.Needs.{needs}
 use mathlib.Core.Path.{sym, ap, _∙_}
 use Prim.Native.Nat.{ℕ}
 use Rattle.store.specs.Making.{made-number}
-use Rattle.calls.specs.Calling.{refuses}
+use Rattle.fields.specs.Out.{refuses}
 use Rattle.host.specs.Exporting.{told}
 use Rattle.host.proofs.ticketmoss_fresh.Statement.{statement}
 use Rattle.host.proofs.ticketmoss_fresh.Tie as tie

@@ -1,0 +1,6 @@
+-- what a reader has to believe
+pub mod Table
+pub mod Messages
+-- and its laws
+pub mod Parts
+pub mod Laying

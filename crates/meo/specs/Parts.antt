@@ -1,0 +1,147 @@
+-- Rows one after the other: where each stands, how long all are, and what is laid over a house message.
+use mathlib.Core.Path.{_≡_, refl, sym, ap, _∙_}
+use mathlib.Core.Bool.{true}
+use mathlib.Core.List.{List, [], _∷_, _++_, map, append-assoc, append-nil}
+use Prim.Native.Nat.{ℕ, zero, suc, _+_, _-_, _/_, _≤_}
+use native.Mathlib.Omega.{arith}
+use native.Mathlib.Nat.{add-zero, zero-add, suc-add}
+use lib.ListN.{length, take, drop, replicate, length-take, length-drop, length-append, length-replicate, take-append-drop}
+use lib.Seq.{take-all, take-nil, drop-drop, take-append-add, drop-append-add, take-append-seam, drop-append-seam, length-take-le, take-append-le, drop-append-le}
+use Rattle.laws.specs.Tables.{All, sum}
+use Rattle.fields.specs.Parts.{stretch}
+use Rattle.fields.specs.Out.{Out, out, puts}
+use Rattle.fields.specs.Puts.{puts-room}
+use Rattle.packing.specs.Words.{row}
+use Rattle.meo.specs.Table.{filled, Row, string, alphanumeric, binary, house, upon, width, cell, lay}
+
+-- ── stretches ──
+-- a stretch is not longer than it says
+pub stretch-whole : (m : List ℕ) (a b n : ℕ) → b ≤ a + n → take n (stretch m a b) ≡ stretch m a b
+unfolding stretch
+stretch-whole m a b n h = take-all n (take (b - a) (drop a m)) (rw length-take (omega arith))
+
+pub length-stretch : (m : List ℕ) (a b : ℕ) → a ≤ b → b ≤ length m → length (stretch m a b) ≡ b - a
+unfolding stretch
+length-stretch m a b h k = length-take-le (b - a) (drop a m) (omega (arith, length-drop a m))
+
+-- what follows a stretch
+pub stretch-then : (m : List ℕ) (a b : ℕ) → a ≤ b → stretch m a b ++ drop b m ≡ drop a m
+unfolding stretch
+stretch-then m a b h = let e : a + (b - a) ≡ b = omega arith in rw (← e) (rw (← drop-drop (b - a) a m, e) (take-append-drop (b - a) (drop a m)))
+
+take-more : (u v : ℕ) (m : List ℕ) → take u m ++ take v (drop u m) ≡ take (u + v) m
+take-more zero v m = rw zero-add
+take-more (suc u) v [] = rw (take-nil, suc-add)
+take-more (suc u) v (x ∷ xs) = rw suc-add (ap (λ (r : List ℕ). x ∷ r) (take-more u v xs))
+
+-- two stretches, the second from where the first ends
+pub stretch-add : (m : List ℕ) (a u v : ℕ) → stretch m a (a + u) ++ stretch m (a + u) (a + u + v) ≡ stretch m a (a + (u + v))
+unfolding stretch
+stretch-add m a u v =
+    let p : a + u - a ≡ u = omega arith in
+    let q : a + u + v - (a + u) ≡ v = omega arith in
+    let r : a + (u + v) - a ≡ u + v = omega arith in
+    rw (p, q, r, ← drop-drop u a m) (take-more u v (drop a m))
+
+-- a stretch of what stands before other bytes, and what stands behind
+pub stretch-before : (m t : List ℕ) (a b : ℕ) → a ≤ b → b ≤ length m → stretch (m ++ t) a b ≡ stretch m a b
+unfolding stretch
+stretch-before m t a b h k = rw (drop-append-le a m t (omega arith)) (take-append-le (b - a) (drop a m) t (omega (arith, length-drop a m)))
+
+pub drop-before : (m t : List ℕ) (a b : ℕ) → a ≤ b → b ≡ length m → drop a (m ++ t) ≡ stretch m a b ++ t
+unfolding stretch
+drop-before m t a b h k = rw (drop-append-le a m t (omega arith), take-all (b - a) (drop a m) (omega (arith, length-drop a m)))
+
+stretch-none : (m : List ℕ) (a : ℕ) → [] ≡ stretch m a (a + 0)
+unfolding stretch
+stretch-none m a = let e : a + 0 - a ≡ 0 = omega arith in rw e
+
+-- ── rows ──
+abbrev pub widths : List Row → ℕ
+widths rs = sum width rs
+
+-- a text that is not longer than its row
+abbrev pub Fits : Row → Type 0
+Fits (string w cs) = length cs ≤ w
+Fits (alphanumeric w cs) = length cs ≤ w
+Fits (binary w n) = Unit {0}
+Fits (house w) = Unit {0}
+Fits (upon w f) = Unit {0}
+
+length-row : (w n : ℕ) → length (row w n) ≡ w
+unfolding row
+length-row zero n = refl
+length-row (suc w) n = ap suc (length-row w (n / 256))
+
+length-filled : (pad w : ℕ) (cs : List ℕ) → length cs ≤ w → length (filled pad w cs) ≡ w
+length-filled pad w cs h = rw (length-append, length-replicate) (omega arith)
+
+pub length-cell : (h : List ℕ) (at : ℕ) (r : Row) → Fits r → at + width r ≤ length h → length (cell h at r) ≡ width r
+length-cell h at (string w cs) f k = length-filled 0 w cs f
+length-cell h at (alphanumeric w cs) f k = length-filled 32 w cs f
+length-cell h at (binary w n) f k = length-row w n
+length-cell h at (house w) f k = length-stretch h at (at + w) (omega arith) k ∙ omega arith
+length-cell h at (upon w f) g k = length-row w _
+
+pub length-lay : (h : List ℕ) (at : ℕ) (rs : List Row) → All Fits rs → at + widths rs ≤ length h → length (lay h at rs) ≡ widths rs
+unfolding lay
+length-lay h at [] a k = refl
+length-lay h at (r ∷ rs) a k = rw (length-append, length-cell h at r (a .0) (omega arith), length-lay h (at + width r) rs (a .1) (omega arith))
+
+-- rows after rows
+pub lay-append : (h : List ℕ) (at : ℕ) (rs ss : List Row) → lay h at (rs ++ ss) ≡ lay h at rs ++ lay h (at + widths rs) ss
+unfolding lay
+lay-append h at [] ss = ap (λ (k : ℕ). lay h k ss) (sym (add-zero at))
+lay-append h at (r ∷ rs) ss = let e : at + width r + widths rs ≡ at + (width r + widths rs) = omega arith in rw (lay-append h (at + width r) rs ss, e, append-assoc)
+
+-- rows of the house message are a stretch of it
+pub lay-house : (h : List ℕ) (at : ℕ) (ws : List ℕ) → lay h at (map house ws) ≡ stretch h at (at + sum (λ w. w) ws)
+unfolding lay
+lay-house h at [] = stretch-none h at
+lay-house h at (w ∷ ws) = rw (lay-house h (at + w) ws) (stretch-add h at w (sum (λ w. w) ws))
+
+-- a row stands where the rows before it end
+pub lay-cell : (h : List ℕ) (rs : List Row) (r : Row) (ss : List Row) → All Fits rs → Fits r → widths rs + width r ≤ length h
+    → stretch (lay h 0 (rs ++ (r ∷ ss))) (widths rs) (widths rs + width r) ≡ cell h (widths rs) r
+unfolding lay stretch
+lay-cell h rs r ss a f k =
+    let n = length-lay h 0 rs a (omega arith) in
+    let m = length-cell h (widths rs) r f k in
+    let e : widths rs + width r - widths rs ≡ width r = omega arith in
+    let rest = lay h (widths rs + width r) ss in
+    let p = ap (λ (k : ℕ). drop k (lay h 0 rs ++ (cell h (widths rs) r ++ rest))) (sym n) ∙ drop-append-seam (lay h 0 rs) (cell h (widths rs) r ++ rest) in
+    rw (e, lay-append h 0 rs (r ∷ ss), zero-add (widths rs), p) (ap (λ (k : ℕ). take k (cell h (widths rs) r ++ rest)) (sym m) ∙ take-append-seam (cell h (widths rs) r) rest)
+
+-- ── laid over ──
+-- bytes over those that stand at a place
+abbrev pub over : List ℕ → ℕ → List ℕ → List ℕ
+over d at cs = take at d ++ (cs ++ drop (at + length cs) d)
+
+pub puts-over : (d e : List ℕ) (at k : ℕ) (cs : List ℕ) → out e k ≡ puts (out d at) cs → at + length cs ≤ length d → e ≡ over d at cs
+puts-over d e at k cs q h = ap (λ (o : Out). o .buffer) (q ∙ puts-room cs d at h)
+
+-- over a list whose first bytes are replaced already
+pub over-next : (x d cs : List ℕ) (at : ℕ) → length x ≤ at → over (x ++ drop (length x) d) at cs ≡ (x ++ (stretch d (length x) at ++ cs)) ++ drop (at + length cs) d
+unfolding stretch
+over-next x d cs at h =
+    let p : length x + (at - length x) ≡ at = omega arith in
+    let q : length x + (at + length cs - length x) ≡ at + length cs = omega arith in
+    let D = drop (length x) d in
+    let u = ap (λ (k : ℕ). take k (x ++ D)) (sym p) ∙ take-append-add x D (at - length x) in
+    let v = ap (λ (k : ℕ). drop k (x ++ D)) (sym q) ∙ drop-append-add x D (at + length cs - length x) ∙ drop-drop (at + length cs - length x) (length x) d ∙ ap (λ (k : ℕ). drop k d) q in
+    rw (u, v) (append-assoc x (take (at - length x) D) (cs ++ drop (at + length cs) d) ∙ rw (append-assoc, append-assoc))
+
+-- a list whose first bytes are these, and the rest another's
+abbrev pub Begins : List ℕ → List ℕ → List ℕ → Type 0
+Begins d x e = e ≡ x ++ drop (length x) d
+
+-- its first bytes once more are put at a place behind them
+abbrev pub next : List ℕ → List ℕ → ℕ → List ℕ → List ℕ
+next d x at cs = x ++ (stretch d (length x) at ++ cs)
+
+pub begins-next : (d x e f : List ℕ) (at k : ℕ) (cs : List ℕ) → Begins d x e → length x ≤ at → at + length cs ≤ length d → out f k ≡ puts (out e at) cs
+    → (length (next d x at cs) ≡ at + length cs) × Begins d (next d x at cs) f
+begins-next d x e f at k cs b h r q =
+    let n : length (next d x at cs) ≡ at + length cs = rw (length-append, length-append, length-stretch d (length x) at h (omega arith)) (omega arith) in
+    let long : at + length cs ≤ length e = rw (b, length-append, length-drop) (omega arith) in
+    (n, puts-over e f at k cs q long ∙ rw (b, n) (over-next x d cs at h))
