@@ -85,7 +85,7 @@ front = alphanumeric 2 (bytes "N1") ∷ house 8 ∷ []
 abbrev middle : List ℕ
 middle = 1 ∷ 1 ∷ 1 ∷ 1 ∷ 1 ∷ 1 ∷ 8 ∷ 1 ∷ 16 ∷ 4 ∷ []
 
-abbrev fixed : List Row
+abbrev pub fixed : List Row
 fixed = binary 4 0 ∷ binary 4 0 ∷ binary 4 0 ∷ binary 8 0 ∷ []
 
 abbrev end : List Row
@@ -116,7 +116,7 @@ message-length l n h e k = length-lay h 0 (table (order-said l n)) (table-fits l
 own-length : (l : List ℕ) (n : NewOrder) (h : List ℕ) → in-form l n ≡ true → length h ≡ 131 → length (lay h 10 (own (order-said l n))) ≡ 42
 own-length l n h e k = length-lay h 10 (own (order-said l n)) (own-fits l n e) (omega arith)
 
-zero-rows : (h : List ℕ) → lay h 87 fixed ≡ replicate 20 0
+pub zero-rows : (h : List ℕ) → lay h 87 fixed ≡ replicate 20 0
 unfolding lay row
 zero-rows h = refl
 
@@ -130,7 +130,7 @@ front-is h e =
     ap (λ (x : List ℕ). bytes "N1" ++ x) (append-nil (stretch h 2 10)) ∙ ap (λ (x : List ℕ). x ++ stretch h 2 10) (sym (message-type h e)) ∙ stretch-add h 0 2 8
 
 -- the message: stretches of the house message, and between them the fields of N, zeros and a space
-in-parts : (h : List ℕ) (o : Order) → is-message h ≡ true
+pub in-parts : (h : List ℕ) (o : Order) → is-message h ≡ true
     → message h o ≡ stretch h 0 10 ++ (lay h 10 (own o) ++ (stretch h 52 87 ++ (replicate 20 0 ++ (stretch h 107 111 ++ (32 ∷ stretch h 112 131)))))
 unfolding message
 in-parts h o e =

@@ -42,6 +42,9 @@ order-of (Fill n m t z p) = no-order
 order-of (Reduction n m t z) = no-order
 order-of (CancelRefused n m t) = no-order
 
+abbrev pub reading-of : NewOrder → Reading
+reading-of n = New (n .name) (n .mpid) (n .symbol) (n .side) (n .size) (n .price)
+
 -- what it says, with the bytes that its texts stand in
 abbrev pub order-said : List ℕ → NewOrder → Order
 order-said l n = record { mpid = said l (n .mpid); name = said l (n .name); symbol = n .symbol; price = n .price; size = n .size; side = side-of (n .side) }

@@ -2,12 +2,13 @@
 use mathlib.Core.Path.{_≡_, refl, sym, ap, _∙_}
 use mathlib.Core.Bool.{true}
 use mathlib.Core.List.{List, [], _∷_, _++_, map, append-assoc, append-nil}
-use Prim.Native.Nat.{ℕ, zero, suc, _+_, _-_, _/_, _≤_}
+use Prim.Native.Nat.{ℕ, zero, suc, _+_, _-_, _*_, _/_, _%_, _^_, _≤_, _<_}
 use native.Mathlib.Omega.{arith}
-use native.Mathlib.Nat.{add-zero, zero-add, suc-add}
+use native.Mathlib.Nat.{add-zero, zero-add, suc-add, pow-succ'}
 use lib.ListN.{length, take, drop, replicate, length-take, length-drop, length-append, length-replicate, take-append-drop}
 use lib.Seq.{take-all, take-nil, drop-drop, take-append-add, drop-append-add, take-append-seam, drop-append-seam, length-take-le, take-append-le, drop-append-le}
-use Rattle.laws.specs.Tables.{All, sum}
+use Rattle.laws.specs.Tables.{All, all-parts, sum, sum-append}
+use Rattle.rulebook.specs.Names.{word}
 use Rattle.fields.specs.Parts.{stretch}
 use Rattle.fields.specs.Out.{Out, out, puts}
 use Rattle.fields.specs.Puts.{puts-room}
@@ -100,17 +101,40 @@ unfolding lay
 lay-house h at [] = stretch-none h at
 lay-house h at (w ∷ ws) = rw (lay-house h (at + w) ws) (stretch-add h at w (sum (λ w. w) ws))
 
--- a row stands where the rows before it end
-pub lay-cell : (h : List ℕ) (rs : List Row) (r : Row) (ss : List Row) → All Fits rs → Fits r → widths rs + width r ≤ length h
-    → stretch (lay h 0 (rs ++ (r ∷ ss))) (widths rs) (widths rs + width r) ≡ cell h (widths rs) r
-unfolding lay stretch
-lay-cell h rs r ss a f k =
-    let n = length-lay h 0 rs a (omega arith) in
-    let m = length-cell h (widths rs) r f k in
-    let e : widths rs + width r - widths rs ≡ width r = omega arith in
-    let rest = lay h (widths rs + width r) ss in
-    let p = ap (λ (k : ℕ). drop k (lay h 0 rs ++ (cell h (widths rs) r ++ rest))) (sym n) ∙ drop-append-seam (lay h 0 rs) (cell h (widths rs) r ++ rest) in
-    rw (e, lay-append h 0 rs (r ∷ ss), zero-add (widths rs), p) (ap (λ (k : ℕ). take k (cell h (widths rs) r ++ rest)) (sym m) ∙ take-append-seam (cell h (widths rs) r) rest)
+-- rows stand where the rows before them end
+pub lay-rows : (h : List ℕ) (rs ss ts : List Row) → All Fits (rs ++ (ss ++ ts)) → widths (rs ++ (ss ++ ts)) ≤ length h
+    → stretch (lay h 0 (rs ++ (ss ++ ts))) (widths rs) (widths rs + widths ss) ≡ lay h (widths rs) ss
+unfolding stretch
+lay-rows h rs ss ts a k =
+    let w : widths rs + (widths ss + widths ts) ≤ length h = rw (sum-append width rs (ss ++ ts), sum-append width ss ts) at k in
+    let f = all-parts Fits rs (ss ++ ts) a in
+    let n = length-lay h 0 rs (f .0) (omega arith) in
+    let m = length-lay h (widths rs) ss (all-parts Fits ss ts (f .1) .0) (omega arith) in
+    let e : widths rs + widths ss - widths rs ≡ widths ss = omega arith in
+    let x = lay h 0 rs in
+    let y = lay h (widths rs) ss in
+    let z = lay h (widths rs + widths ss) ts in
+    let l : lay h 0 (rs ++ (ss ++ ts)) ≡ x ++ (y ++ z) = lay-append h 0 rs (ss ++ ts) ∙ rw (zero-add (widths rs), lay-append h (widths rs) ss ts) in
+    let p = ap (λ (k : ℕ). drop k (x ++ (y ++ z))) (sym n) ∙ drop-append-seam x (y ++ z) in
+    rw (e, l, p) (ap (λ (k : ℕ). take k (y ++ z)) (sym m) ∙ take-append-seam y z)
+
+-- ── numbers ──
+-- a byte
+abbrev pub Byte : ℕ → Type 0
+Byte c = c < 256
+
+pub row-word : (cs : List ℕ) → All Byte cs → row (length cs) (word cs) ≡ cs
+unfolding row word
+row-word [] a = refl
+row-word (c ∷ cs) a =
+    let m : (c + 256 * word cs) % 256 ≡ c = omega (arith, a .0) in
+    let d : (c + 256 * word cs) / 256 ≡ word cs = omega (arith, a .0) in
+    rw (m, d, row-word cs (a .1))
+
+pub word-row : (k n : ℕ) → n < 256 ^ k → word (row k n) ≡ n
+unfolding row word
+word-row zero n h = omega arith
+word-row (suc k) n h = let p = pow-succ' 256 k in omega (arith, word-row k (n / 256) (omega arith))
 
 -- ── laid over ──
 -- bytes over those that stand at a place
