@@ -12,6 +12,10 @@ use Rattle.host.proofs.ticketmoss_record.Kinds as record-kinds
 use Rattle.host.proofs.ticketmoss_record.Reads as record-reads
 use Rattle.host.proofs.ticketmoss_closing.Kinds as closing-kinds
 use Rattle.host.proofs.ticketmoss_closing.Reads as closing-reads
+use Rattle.host.proofs.ticketmoss_order_write.Kinds as write-kinds
+use Rattle.host.proofs.ticketmoss_order_write.Reads as write-reads
+use Rattle.host.proofs.ticketmoss_order_read.Kinds as read-kinds
+use Rattle.host.proofs.ticketmoss_order_read.Reads as read-reads
 use Rattle.fields.proofs.Single.{Once}
 
 words-once : Once 0 words-kinds.ps words-kinds.r words-reads.Post (λ κs x s. x)
@@ -43,3 +47,15 @@ closing-once κs a x y s t p q = p .0 ∙ sym (q .0)
 
 closing-buffer : Once 2 closing-kinds.ps closing-kinds.r closing-reads.Post (λ κs x s. s .1 .1 .0 .now)
 closing-buffer κs a x y s t p q = p .1 ∙ sym (q .1)
+
+order-write-once : Once 3 write-kinds.ps write-kinds.r write-reads.Post (λ κs x s. x)
+order-write-once κs a x y s t p q = p .0 ∙ sym (q .0)
+
+order-write-output : Once 3 write-kinds.ps write-kinds.r write-reads.Post (λ κs x s. s .1 .1 .0 .now)
+order-write-output κs a x y s t p q = p .1 ∙ sym (q .1)
+
+order-read-once : Once 2 read-kinds.ps read-kinds.r read-reads.Post (λ κs x s. x)
+order-read-once κs a x y s t p q = p .0 ∙ sym (q .0)
+
+order-read-words : Once 2 read-kinds.ps read-kinds.r read-reads.Post (λ κs x s. s .1 .0 .now)
+order-read-words κs a x y s t p q = p .1 ∙ sym (q .1)

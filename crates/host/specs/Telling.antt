@@ -1,23 +1,29 @@
 -- What a call says, told as one number: that it fits an i64, and that it is what the call below says.
 use mathlib.Core.Path.{_≡_, refl, sym, ap, _∙_, subst}
 use mathlib.Core.Bool.{Bool, true, false, cond}
-use mathlib.Core.List.{List}
+use mathlib.Core.List.{List, [], _∷_, _++_}
 use Prim.Native.Nat.{ℕ, zero, suc, _+_, _*_, _≤_, _<_, _^_}
 use native.Mathlib.Omega.{arith}
 use native.Mathlib.Decide.{decLt}
 use lib.IntN.{pos, negsuc}
 use lib.ListN.{length}
-use borrow.Author.Tests.{le-ltb, ne-eqb}
-use Rattle.laws.specs.Tests.{on, opt}
-use Rattle.laws.specs.Checks.{first}
+use lib.Dec.{ltb, eqb}
+use borrow.Author.Tests.{lt-ltb, le-ltb, ltb-true, ne-eqb}
+use Rattle.laws.specs.Tests.{on, opt, both, split}
+use Rattle.laws.specs.Checks.{Check, _⇒_, first, each}
 use Rattle.books.specs.Layout.{least-words, place-words, room-for}
 use Rattle.rules.specs.Testing.{state-ok}
-use Rattle.fields.specs.Out.{Said, refuses}
+use Rattle.fields.specs.Out.{Said, refuses, begun}
 use Rattle.calls.specs.Calling.{wrote, answer-said, closing-said, answer-to, Recorded, record-left, recorded, Closing, closing-left, closing-of, closed, group-at}
 use Rattle.calls.specs.Keeping.{short-buffer, bad-state, judged-line, answer-written, closing-short-buffer, closing-bad-state, closing-unlisted, closing-line-of, closing-written}
 use Rattle.calls.specs.declared.Answered.{Answered}
 use Rattle.calls.specs.declared.Closed.{Closed}
-use Rattle.host.specs.Exporting.{told, heard, state-said, words-for}
+use Rattle.meo.specs.Messages.{sent-said, write-checks, write-said, read-checks, found-said, read-said}
+use Rattle.meo.specs.Orders.{read-order}
+use Rattle.meo.specs.declared.NewOrder.{NewOrder}
+use Rattle.meo.specs.declared.Found.{Found}
+use Rattle.meo.specs.declared.Sent.{Sent}
+use Rattle.host.specs.Exporting.{told, heard, state-said, words-for, order-words, read-refusals, read-told, read-left}
 
 -- a refusal is heard
 refused-heard : (n : ℕ) → heard (told (refuses n)) ≡ refuses n
@@ -90,3 +96,39 @@ module _ (m : List ℕ) (i : ℕ) (b : List ℕ) {b' : List ℕ} {x : Closed} wh
 
   pub closing-fits : (n : ℕ) → x ≡ Closed.Line n → closing-left (closing-said x) b' ≡ closed m i b → n < 2 ^ 63
   closing-fits n q p = let e : n ≡ closed m i b .said .bytes = ap (λ z. closing-said z .bytes) (sym q) ∙ ap (λ (r : Closing). r .said .bytes) p in omega (arith, e, closing-said-by m i b (λ x. x .bytes ≤ 96) (λ n. omega arith) (λ cs h. h))
+
+-- ── an order message ──
+-- THEOREM. The number tells all that the calls say
+pub order-write-heard : (l : List ℕ) (n : NewOrder) (h b : List ℕ) → heard (told (write-said l n h b)) ≡ write-said l n h b
+unfolding write-said
+order-write-heard l n h b = let k = first (write-checks l n h b) in split (λ (x : Said). heard (told x) ≡ x) (eqb k 0) (sent-said Sent.Message) (refuses k) (λ e. refl) (λ e. refused-heard k)
+
+pub order-read-heard : (m b : List ℕ) → heard (told (read-told m b)) ≡ read-told m b
+unfolding read-told
+order-read-heard m b = let k = first (read-refusals m b) in split (λ (x : Said). heard (told x) ≡ x) (eqb k 0) (record { number = 0; bytes = 8 }) (refuses k) (λ e. refl) (λ e. refused-heard k)
+
+-- one check more at the end of a chain
+first-then : (l : List Check) (t : Bool) (n : ℕ) → each (λ k. ltb 0 k) l ≡ true → first (l ++ ((t ⇒ n) ∷ [])) ≡ cond (eqb (first l) 0) (cond t n 0) (first l)
+unfolding first
+first-then [] t n e = refl
+first-then ((u ⇒ k) ∷ l) t n e =
+    let w = both {a = ltb 0 k} e in
+    on (λ u. cond u k (first (l ++ ((t ⇒ n) ∷ []))) ≡ cond (eqb (cond u k (first l)) 0) (cond t n 0) (cond u k (first l))) u (λ z. rw (ne-eqb k 0 (λ q. omega (arith, ltb-true 0 k (w .0), q)))) (λ z. first-then l t n (w .1))
+
+refusal : (m b : List ℕ) → first (read-refusals m b) ≡ cond (eqb (read-said m .number) 0) (cond (ltb (length b) 8) 43 0) (read-said m .number)
+unfolding read-said
+refusal m b = first-then (read-checks m) (ltb (length b) 8) 43 refl
+
+module _ (m b : List ℕ) where
+  pub order-refused : (k : ℕ) → read-said m .number ≡ suc k → (negsuc k ≡ told (read-told m b)) × (b ≡ read-left m b)
+  unfolding read-told read-left
+  order-refused k e = let n : eqb (suc k) 0 ≡ false = ne-eqb (suc k) 0 (λ q. omega arith) in (rw (refusal m b, e, n, n, n), rw (refusal m b, e, n, n))
+
+  module _ (n : NewOrder) (e : read-said m ≡ found-said (Found.Order n)) where
+    pub order-short : length b < 8 → (negsuc 42 ≡ told (read-told m b)) × (b ≡ read-left m b)
+    unfolding read-told read-left
+    order-short h = let z = read-order m n e .0 in (rw (refusal m b, z, lt-ltb (length b) 8 h), rw (refusal m b, z, lt-ltb (length b) 8 h))
+
+    pub order-told : 8 ≤ length b → (pos 8 ≡ told (read-told m b)) × (begun (order-words n) b ≡ read-left m b)
+    unfolding read-told read-left
+    order-told h = let z = read-order m n e in (rw (refusal m b, z .0, le-ltb (length b) 8 h), rw (refusal m b, z .0, le-ltb (length b) 8 h, ← z .1))

@@ -2,14 +2,24 @@
 //
 // Each is the call below it, and says its answer as one number with its sign: the bytes that were written, or minus document 01's number.
 ghost use mathlib.Core.Path.{_≡_};
+ghost use Prim.Native.Nat.{_≤_};
+ghost use lib.ListN.{length};
 ghost use Rattle.books.specs.Layout.{room-for};
 ghost use Rattle.store.specs.Making.{made, made-words};
-ghost use Rattle.fields.specs.Out.{refuses};
+ghost use Rattle.fields.specs.Out.{refuses, begun};
 ghost use Rattle.calls.specs.Calling.{recorded, closed};
-ghost use Rattle.host.specs.Exporting.{told, state-said, words-for};
+ghost use Rattle.codec.specs.Readings.{reading};
+ghost use Rattle.meo.specs.Messages.{order-of, write-said, write-left};
+ghost use Rattle.host.specs.Exporting.{told, state-said, words-for, order-words, read-told, read-left};
 use calls::Answered;
 use calls::Closed;
+use meo::Found;
+use meo::NewOrder;
+use meo::Sent;
 use store::Made;
+
+// The words of an N that is read.
+const ORDER: usize = 8;
 
 // How many words a room of so many places needs; 0 where no memory has so many.
 #[no_mangle]
@@ -78,5 +88,58 @@ pub extern "C" fn ticketmoss_closing(mem: &[u64], place: usize, to: &mut [u8]) -
         Closed::ShortBuffer => -21,
         Closed::BadState => -22,
         Closed::Unlisted => -5,
+    }
+}
+
+// Writes the N of a line, lent with its LF, as the exchange's New Order Request: 131, its bytes, or -41, -42 or -43.
+#[no_mangle]
+pub extern "C" fn ticketmoss_order_write(line: &[u8], house: &[u8], to: &mut [u8]) -> i64
+    ensures answer { λ r. ⌜ r ≡ told (write-said (now (line .entry)) (order-of (reading (now (line .entry)))) (now (house .entry)) (now (to .entry))) ⌝ }
+    ensures buffer { λ _. ⌜ now (to .exit) ≡ write-left (now (line .entry)) (order-of (reading (now (line .entry)))) (now (house .entry)) (now (to .entry)) ⌝ }
+{
+    let n = meo::order_of(codec::read(line));
+    match meo::write(line, n, house, to) {
+        Sent::Message => 131,
+        Sent::BadMessage => -41,
+        Sent::BadOrder => -42,
+        Sent::ShortOutput => -43,
+    }
+}
+
+// An N as words at the start of those that are lent, which have room: where its identifier begins and ends, where its MPID does, its symbol, side, size
+// and price.
+fn put_order(words: &mut [u64], n: NewOrder)
+    requires { ⌜ 8 ≤ length (now words) ⌝ }
+    ensures { λ _. ⌜ now (words .exit) ≡ begun (order-words n) (now (words .entry)) ⌝ }
+{
+    let row = [
+        n.name.from as u64,
+        n.name.to as u64,
+        n.mpid.from as u64,
+        n.mpid.to as u64,
+        n.symbol,
+        n.side as u64,
+        n.size,
+        n.price,
+    ];
+    store::put_row(words, 0, &row);
+}
+
+// Reads a New Order Request into words: 8, as many as are written, or -41, -42 or -43.
+#[no_mangle]
+pub extern "C" fn ticketmoss_order_read(message: &[u8], words: &mut [u64]) -> i64
+    ensures answer { λ r. ⌜ r ≡ told (read-told (now (message .entry)) (now (words .entry))) ⌝ }
+    ensures words { λ _. ⌜ now (words .exit) ≡ read-left (now (message .entry)) (now (words .entry)) ⌝ }
+{
+    match meo::read(message) {
+        Found::Order(n) => {
+            if words.len() < ORDER {
+                return -43;
+            }
+            put_order(words, n);
+            8
+        }
+        Found::BadMessage => -41,
+        Found::BadOrder => -42,
     }
 }

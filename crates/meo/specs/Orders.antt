@@ -97,7 +97,7 @@ same-record l m n found e = ap recorded e
 
 -- ── read then written ──
 -- the N that is read is the one where the table has it
-read-order : (m : List ℕ) (n : NewOrder) → read-said m ≡ found-said (Found.Order n) → (read-said m .number ≡ 0) × (n ≡ order-at m)
+pub read-order : (m : List ℕ) (n : NewOrder) → read-said m ≡ found-said (Found.Order n) → (read-said m .number ≡ 0) × (n ≡ order-at m)
 unfolding read-said
 read-order m n q =
     let z = ap (λ (x : Heard). x .number) q in
