@@ -5,7 +5,8 @@
 //   read MESSAGE            a message, to be read
 // For each vector a line is written: "write", the number and every byte of the output; or "read", the number and, where that is 0, the places
 // of identifier and MPID in the message, symbol, side, size and price, and the N's line.
-ghost use Prim.Native.Nat.{_<_};
+ghost use Prim.Native.Nat.{_≤_, _<_};
+ghost use lib.ListN.{length};
 use codec::Reading;
 use fields::Place;
 use fields::Written;
@@ -45,15 +46,21 @@ fn digit_of(value: u8) -> u8
     b'a' + (value - 10)
 }
 
+fn byte_of(high: u8, low: u8) -> u8 {
+    digit_value(high) * 16 + digit_value(low)
+}
+
 // Puts the bytes that hex digits say, and answers how many there are.
 fn from_hex(text: &[u8], to: &mut [u8]) -> usize {
-    let mut at = 0;
     let mut count = 0;
-    while at + 1 < text.len() {
-        count = fields::put(to, count, digit_value(text[at]) * 16 + digit_value(text[at + 1]));
-        at += 2;
+    for i in 0..text.len() / 2 {
+        count = fields::put(to, count, byte_of(text[2 * i], text[2 * i + 1]));
     }
     count
+}
+
+fn say_byte(b: u8) {
+    say(&[digit_of(b / 16), digit_of(b % 16)]);
 }
 
 // Says bytes in hex, `-` where there are none.
@@ -62,12 +69,14 @@ fn say_hex(bytes: &[u8]) {
         say(b"-");
     }
     for i in 0..bytes.len() {
-        say(&[digit_of(bytes[i] / 16), digit_of(bytes[i] % 16)]);
+        say_byte(bytes[i]);
     }
 }
 
 // The end of the word that begins at a place: the next space, or the text's end.
-fn word_end(text: &[u8], at: usize) -> usize {
+fn word_end(text: &[u8], at: usize) -> usize
+    ensures { λ r. ⌜ r ≤ length (now (text .entry)) ⌝ }
+{
     let mut i = at;
     while i < text.len() {
         if text[i] == b' ' {
@@ -75,22 +84,31 @@ fn word_end(text: &[u8], at: usize) -> usize {
         }
         i += 1;
     }
-    i
+    text.len()
 }
 
 fn word(text: &[u8], from: usize, to: usize) -> &[u8] {
     fields::part(text, Place { from, to })
 }
 
-// A number of at most three digits.
+fn digit_at(text: &[u8], at: usize) -> usize
+    ensures { λ r. ⌜ r < 16 ⌝ }
+{
+    digit_value(fields::byte_at(text, at)) as usize
+}
+
+// A number of one to three digits.
 fn size_of(text: &[u8]) -> usize {
-    let mut n = 0;
-    for i in 0..3 {
-        if i < text.len() {
-            n = n * 10 + digit_value(text[i]) as usize;
-        }
+    let a = digit_at(text, 0);
+    let b = digit_at(text, 1);
+    let c = digit_at(text, 2);
+    if text.len() == 1 {
+        return a;
     }
-    n
+    if text.len() == 2 {
+        return a * 10 + b;
+    }
+    a * 100 + b * 10 + c
 }
 
 fn number_of(sent: Sent) -> u64 {
@@ -102,26 +120,33 @@ fn number_of(sent: Sent) -> u64 {
     }
 }
 
-fn test_write(size: usize, house: &[u8], line: &[u8]) {
-    let mut out = [0xaau8; MOST];
-    if size > MOST {
-        return;
+// Has a line's N written where there is room for so many bytes, and answers the number.
+fn write_within(size: usize, house: &[u8], line: &[u8], to: &mut [u8]) -> u64 {
+    if size > to.len() {
+        return 0;
     }
     let n = meo::order_of(codec::read(line));
-    let sent = meo::write(line, n, house, &mut out[0..size]);
+    number_of(meo::write(line, n, house, &mut to[0..size]))
+}
+
+fn test_write(size: usize, house: &[u8], line: &[u8]) {
+    let mut out = [0xaau8; MOST];
+    let number = write_within(size, house, line, &mut out);
     say(b"write");
-    say_number(number_of(sent));
+    say_number(number);
     say(b" ");
-    say_hex(&out[0..size]);
+    say_hex(word(&out, 0, size));
     say(b"\n");
 }
 
 // Says an N: its fields, and its line.
 fn say_order(message: &[u8], n: NewOrder) {
-    say_number(n.name.from as u64);
-    say_number(n.name.to as u64);
-    say_number(n.mpid.from as u64);
-    say_number(n.mpid.to as u64);
+    let name = n.name;
+    let mpid = n.mpid;
+    say_number(name.from as u64);
+    say_number(name.to as u64);
+    say_number(mpid.from as u64);
+    say_number(mpid.to as u64);
     say_number(n.symbol);
     say(b" ");
     say(&[n.side]);
@@ -129,8 +154,8 @@ fn say_order(message: &[u8], n: NewOrder) {
     say_number(n.price);
     say(b" ");
     let record = Reading::New {
-        name: n.name,
-        mpid: n.mpid,
+        name,
+        mpid,
         symbol: n.symbol,
         side: n.side,
         size: n.size,
