@@ -1,15 +1,17 @@
 /* Ticketmoss for hosts in C and C++: the proved calls of target/staticlib/libhost.a (`rt staticlib host`), for Linux on x86-64.
  *
  * The gate keeps nothing of its own. A host lends it words, the state, a line and a buffer, and lends the same words again for the next record.
- * No call allocates, blocks, reads a clock or keeps a pointer. Every call ends with an answer whatever the words and bytes hold, and what is
- * refused changes nothing. docs/STATE.md has the map of the words, docs/PROMISES.md what is promised and proved.
+ * The calls about order messages are lent no state. No call allocates, blocks, reads a clock or keeps a pointer. Every call ends with an answer
+ * whatever the words and bytes hold, and what is refused changes nothing. docs/STATE.md has the map of the words, docs/PROMISES.md what is
+ * promised and proved.
  *
- * A call's answer is one number. 0 or more: it was done, and so many bytes were written at the buffer's start; bytes past them stay as found.
- * Below 0: minus one of document 01's numbers, and neither words nor buffer were changed.
+ * A call's answer is one number. 0 or more: it was done, and so many bytes (of ticketmoss_order_read: so many words) were written at the start
+ * of the buffer; those past them stay as found. Below 0: minus one of the documents' numbers, and nothing that was lent was changed.
  *
  * What a caller owes, since nothing checks it here: a pointer is never null, not even with a length of 0, is aligned for its type, and points to
- * so many words or bytes that stay the caller's own during the call; the words, the line and the buffer do not overlap. Two calls at the same
- * time over the same words are a fault of the host's; over different words they are fine. A call takes less than 512 KiB of stack. */
+ * so many words or bytes that stay the caller's own during the call; what a call writes to overlaps nothing else that it is lent. Two calls at
+ * the same time over the same words, or to the same buffer, are a fault of the host's; over different ones they are fine. A call takes less than
+ * 512 KiB of stack. */
 #ifndef TICKETMOSS_H
 #define TICKETMOSS_H
 
@@ -36,6 +38,9 @@ extern "C" {
 /* the most groups and symbols */
 #define TICKETMOSS_MOST_GROUPS 64
 #define TICKETMOSS_MOST_SYMBOLS 256
+/* the bytes of an order message and of a house message, and the words in which a message is read */
+#define TICKETMOSS_MESSAGE_BYTES 131
+#define TICKETMOSS_ORDER_WORDS 8
 
 /* ---- the documents' numbers: the fourth field of an answer line, or minus a call's answer ---- */
 
@@ -69,6 +74,10 @@ extern "C" {
 #define TICKETMOSS_NET_OPEN 34    /* how far they are apart */
 #define TICKETMOSS_GROSS_BOTH 35  /* traded and open, added up */
 #define TICKETMOSS_NET_BOTH 36    /* how far buys and sells, traded and open, are apart */
+/* order messages (document 02, order 2); a call's answer only, in this order */
+#define TICKETMOSS_BAD_MESSAGE 41  /* the message, or the house message, has not the layout's length or not its type "N1" */
+#define TICKETMOSS_BAD_ORDER 42    /* a field of N outside its form; in a message also one that has to be zero, or a space, and is not */
+#define TICKETMOSS_SHORT_OUTPUT 43 /* output under 131 bytes, or under 8 words */
 
 /* ---- document 01's outcomes: the third field of an answer line ---- */
 
@@ -100,6 +109,17 @@ int64_t ticketmoss_record(uint64_t *words, size_t count, const uint8_t *line, si
 /* The closing line of the group at a place in listing order, from 0; it changes no word. Its bytes, or -TICKETMOSS_SHORT_BUFFER,
  * -TICKETMOSS_BAD_STATE, or -TICKETMOSS_NO_MPID where no group has the place. */
 int64_t ticketmoss_closing(const uint64_t *words, size_t count, size_t place, uint8_t *buffer, size_t size);
+
+/* Writes the N of a line, lent with its LF, at the buffer's start as the exchange's New Order Request (source document 000, 4.1.1). MinQty,
+ * MaxFloor Qty, Display Range Qty and Peg Offset are zero and the Purge Group is a space; every other field that N does not carry comes from the
+ * lent house message of the same layout, the bits of Order Instructions that do not tell the side too. TICKETMOSS_MESSAGE_BYTES, or
+ * -TICKETMOSS_BAD_MESSAGE (the house message), -TICKETMOSS_BAD_ORDER (no line of an N) or -TICKETMOSS_SHORT_OUTPUT. */
+int64_t ticketmoss_order_write(const uint8_t *line, size_t length, const uint8_t *house, size_t house_length, uint8_t *buffer, size_t size);
+
+/* Reads a New Order Request: the N's fields as eight words at the start of `fields`. They are where the identifier begins in the message and
+ * where it ends (the place past its last byte), where the MPID begins and ends, the symbol ID, the side (the byte of its letter B, S, H or E),
+ * the size, the price. TICKETMOSS_ORDER_WORDS, or -TICKETMOSS_BAD_MESSAGE, -TICKETMOSS_BAD_ORDER or -TICKETMOSS_SHORT_OUTPUT. */
+int64_t ticketmoss_order_read(const uint8_t *message, size_t length, uint64_t *fields, size_t count);
 
 #ifdef __cplusplus
 }

@@ -5,8 +5,11 @@
 /// The least bytes of a buffer for an answer line, and for a closing line; no line has more.
 pub const ANSWER_BYTES: usize = 32;
 pub const CLOSING_BYTES: usize = 96;
+/// The bytes of an order message and of a house message, and the words in which a message is read.
+pub const MESSAGE_BYTES: usize = 131;
+pub const ORDER_WORDS: usize = 8;
 
-/// One of document 01's numbers with which a call refuses: 5, 21, 22 or 23 (`ticketmoss.h` names them). Nothing was changed.
+/// One of the documents' numbers with which a call refuses: 5, 21, 22, 23, 41, 42 or 43 (`ticketmoss.h` names them). Nothing was changed.
 #[derive(Clone, Copy, Debug, PartialEq, Eq)]
 pub struct Refused(pub u8);
 
@@ -30,6 +33,20 @@ mod calls {
             place: usize,
             buffer: *mut u8,
             size: usize,
+        ) -> i64;
+        pub fn ticketmoss_order_write(
+            line: *const u8,
+            length: usize,
+            house: *const u8,
+            house_length: usize,
+            buffer: *mut u8,
+            size: usize,
+        ) -> i64;
+        pub fn ticketmoss_order_read(
+            message: *const u8,
+            length: usize,
+            fields: *mut u64,
+            count: usize,
         ) -> i64;
     }
 }
@@ -85,6 +102,34 @@ pub fn closing(words: &[u64], place: usize, buffer: &mut [u8]) -> Result<usize, 
             place,
             buffer.as_mut_ptr(),
             buffer.len(),
+        )
+    })
+}
+
+/// Writes the N of a line, lent with its LF, as a New Order Request at the buffer's start, with the house message's values in the fields that N
+/// does not carry: the bytes written, or 41, 42 or 43.
+pub fn order_write(line: &[u8], house: &[u8], buffer: &mut [u8]) -> Result<usize, Refused> {
+    told(unsafe {
+        calls::ticketmoss_order_write(
+            line.as_ptr(),
+            line.len(),
+            house.as_ptr(),
+            house.len(),
+            buffer.as_mut_ptr(),
+            buffer.len(),
+        )
+    })
+}
+
+/// Reads a New Order Request: the N's fields as eight words at the start of `fields`, in the order that `ticketmoss.h` says; how many words were
+/// written, or 41, 42 or 43.
+pub fn order_read(message: &[u8], fields: &mut [u64]) -> Result<usize, Refused> {
+    told(unsafe {
+        calls::ticketmoss_order_read(
+            message.as_ptr(),
+            message.len(),
+            fields.as_mut_ptr(),
+            fields.len(),
         )
     })
 }
