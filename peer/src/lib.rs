@@ -1,4 +1,4 @@
-//! A second reading of document 01, with order 1 of document 02, without proofs.
+//! A second reading of document 01, with orders 1 and 2 of document 02, without proofs.
 //!
 //! It shares no code with the proved gate. The two are fed the same lines and the same
 //! words, and their answers and their memory are compared; it also serves as the other
@@ -7,6 +7,7 @@
 //! - [`line`]: the day's lines, read and written.
 //! - [`gate`]: the judging of one day, kept in its own structures.
 //! - [`memory`]: the same day kept in lent words, with the state rules.
+//! - [`message`]: an order as the exchange's own message, written and read.
 
 #![forbid(unsafe_code)]
 #![warn(missing_docs)]
@@ -17,4 +18,5 @@ pub mod days;
 pub mod gate;
 pub mod line;
 pub mod memory;
+pub mod message;
 mod table;
