@@ -18,12 +18,16 @@
  *                                  closing line                                                    -> n times: result, answer, the words
  *                                  that the record changed (number, (index word)..), answer
  *   N n (which number)..           n calls of words (0) or places (1)                              -> n u64
- * mode u8: 1 the slices begin behind a guard page (else they end before one), 2 the line is read-only, 4 the words are read-only in calls that
- * change none. pattern u8: what the buffer is filled with before a call. count, n, pokes, index u32; length, size u16; word, fill, place, result
- * and number 64 bits. An answer: result, flags u8, u16 and so many bytes: the buffer's start up to the last byte that is part of the result or
- * differs from the pattern. flags: 1 the line was changed, 2 bytes beside a slice were changed, 4 words were changed by a call that changes none.
+ *   O mode pattern n (0 length length size line house or 1 length size message)..
+ *                                  n orders: the line written as a message with the house message (0), or the message read (1); size in
+ *                                  bytes, also of the words that a message is read to              -> n answers
+ * mode u8: 1 the slices begin behind a guard page (else they end before one), 2 the line, house message or message is read-only, 4 the words are
+ * read-only in calls that change none. pattern, which, 0 and 1 u8; pattern: what the buffer is filled with before a call. count, n, pokes, index
+ * u32; length, size u16; word, fill, place, result and number 64 bits. An answer: result, flags u8, u16 and so many bytes: the buffer's start up
+ * to the last byte that is part of the result or differs from the pattern. flags: 1 the line or message was changed, 2 bytes beside a slice were
+ * changed, 4 words were changed by a call that changes none, 8 the house message was changed.
  *
- * An argument makes the worker wrong on purpose, so that the harness can be seen to notice (see `spoil`). */
+ * An argument makes the worker wrong on purpose, so that the harness can be seen to notice (see `spoil`, `spoil_written`, `spoil_read`). */
 #define _DEFAULT_SOURCE
 #include <stdint.h>
 #include <stdlib.h>
@@ -34,8 +38,8 @@
 #include "ticketmoss.h"
 
 enum { AT_START = 1, LINE_READ_ONLY = 2, WORDS_READ_ONLY = 4 };
-enum { LINE_CHANGED = 1, BESIDE_CHANGED = 2, WORDS_CHANGED = 4 };
-enum { MOST_LINE = 4096, MOST_BUFFER = 4096, MARGIN = 64, CANARY = 0xC3 };
+enum { LINE_CHANGED = 1, BESIDE_CHANGED = 2, WORDS_CHANGED = 4, HOUSE_CHANGED = 8 };
+enum { MOST_LINE = 4096, MOST_HOUSE = 4096, MOST_BUFFER = 4096, MARGIN = 64, CANARY = 0xC3 };
 #define MOST_WORDS TICKETMOSS_WORDS(TICKETMOSS_MOST_PLACES + 100)
 
 static void give_up(void) { _exit(3); }
@@ -89,7 +93,8 @@ static void protect(const struct room *r, int read_only) {
     if (bytes && mprotect(from, bytes, read_only ? PROT_READ : PROT_READ | PROT_WRITE)) give_up();
 }
 
-static struct room words, line, buffer;
+/* a message that is read lies where lines do, and the words it is read to where buffers do */
+static struct room words, line, house, buffer;
 static uint64_t *base, *before;
 static size_t count, base_count;
 static int mode;
@@ -188,11 +193,74 @@ static void spoil(int64_t *result) {
     }
 }
 
+/* The same for orders: those that are written, and those that are read. */
+static void spoil_written(int64_t *result) {
+    size_t watched;
+    uint8_t *from = beside(&house, &watched);
+    switch (wrong) {
+    case 11: /* reads a byte behind the house message */
+        sink = house.at[house.bytes];
+        break;
+    case 12: /* reads a byte before the house message */
+        sink = house.at[-1];
+        break;
+    case 13: /* reads a byte behind the line */
+        sink = line.at[line.bytes];
+        break;
+    case 14: /* writes past the message */
+        if (*result > 0 && (size_t)*result < buffer.bytes) buffer.at[*result] ^= 1;
+        break;
+    case 15: /* writes to the line */
+        if (line.bytes) line.at[line.bytes - 1] ^= 1;
+        break;
+    case 16: /* writes to the house message */
+        if (house.bytes) house.at[house.bytes - 1] ^= 1;
+        break;
+    case 17: /* writes beside the house message */
+        if (watched) from[watched - 1] ^= 1;
+        break;
+    case 18: /* writes and refuses with 41 */
+    case 19: /* the same with 42 */
+    case 20: /* the same with 43 */
+        if (*result == -(TICKETMOSS_BAD_MESSAGE + wrong - 18) && buffer.bytes) buffer.at[buffer.bytes - 1] ^= 1;
+        break;
+    }
+}
+
+static void spoil_read(int64_t *result) {
+    switch (wrong) {
+    case 21: /* reads a byte behind the message */
+        sink = line.at[line.bytes];
+        break;
+    case 22: /* reads a byte before the message */
+        sink = line.at[-1];
+        break;
+    case 23: /* reads a byte behind the words */
+        sink = buffer.at[buffer.bytes];
+        break;
+    case 24: /* writes past the words */
+        if (*result > 0 && (size_t)*result * 8 < buffer.bytes) buffer.at[*result * 8] ^= 1;
+        break;
+    case 25: /* writes to the message */
+        if (line.bytes) line.at[line.bytes - 1] ^= 1;
+        break;
+    case 26: /* writes and refuses with 41 */
+    case 27: /* the same with 42 */
+    case 28: /* the same with 43 */
+        if (*result == -(TICKETMOSS_BAD_MESSAGE + wrong - 26) && buffer.bytes) buffer.at[buffer.bytes - 1] ^= 1;
+        break;
+    case 29: /* returns a wrong number */
+        if (*result == -TICKETMOSS_SHORT_OUTPUT) *result = -TICKETMOSS_BAD_ORDER;
+        break;
+    }
+}
+
 /* ---- the calls ---- */
 
-static void put_answer(int64_t result, int flags, uint8_t pattern) {
+/* A result counts items of so many bytes. */
+static void put_answer(int64_t result, size_t item, int flags, uint8_t pattern) {
     size_t n = buffer.bytes;
-    size_t least = result > 0 ? (size_t)result : 0;
+    size_t least = result > 0 ? (size_t)result * item : 0;
     while (n > least && buffer.at[n - 1] == pattern) n--;
     uint8_t f = (uint8_t)flags;
     uint16_t bytes = (uint16_t)n;
@@ -202,14 +270,18 @@ static void put_answer(int64_t result, int flags, uint8_t pattern) {
     put(buffer.at, n);
 }
 
+static void lend_bytes(struct room *r, const uint8_t *bytes, size_t length) {
+    place(r, length, mode & AT_START);
+    memcpy(r->at, bytes, length);
+}
+
 static void lend_buffer(size_t size, uint8_t pattern) {
     place(&buffer, size, mode & AT_START);
     memset(buffer.at, pattern, size);
 }
 
 static void record(const uint8_t *bytes, size_t length, size_t size, uint8_t pattern) {
-    place(&line, length, mode & AT_START);
-    memcpy(line.at, bytes, length);
+    lend_bytes(&line, bytes, length);
     lend_buffer(size, pattern);
     if (mode & LINE_READ_ONLY) protect(&line, 1);
     int64_t result = ticketmoss_record(state(), count, line.at, length, buffer.at, size);
@@ -217,7 +289,7 @@ static void record(const uint8_t *bytes, size_t length, size_t size, uint8_t pat
     if (wrong) spoil(&result);
     int flags = memcmp(line.at, bytes, length) ? LINE_CHANGED : 0;
     flags |= beside_changed(&words) | beside_changed(&line) | beside_changed(&buffer);
-    put_answer(result, flags, pattern);
+    put_answer(result, 1, flags, pattern);
 }
 
 static void closing(uint64_t which, size_t size, uint8_t pattern, int flags) {
@@ -225,7 +297,43 @@ static void closing(uint64_t which, size_t size, uint8_t pattern, int flags) {
     if (mode & WORDS_READ_ONLY) protect(&words, 1);
     int64_t result = ticketmoss_closing(state(), count, (size_t)which, buffer.at, size);
     if (mode & WORDS_READ_ONLY) protect(&words, 0);
-    put_answer(result, flags | beside_changed(&words) | beside_changed(&buffer), pattern);
+    put_answer(result, 1, flags | beside_changed(&words) | beside_changed(&buffer), pattern);
+}
+
+static void write_order(uint8_t pattern) {
+    TAKE(uint16_t, length);
+    TAKE(uint16_t, house_length);
+    TAKE(uint16_t, size);
+    const uint8_t *bytes = take(length);
+    const uint8_t *house_bytes = take(house_length);
+    lend_bytes(&line, bytes, length);
+    lend_bytes(&house, house_bytes, house_length);
+    lend_buffer(size, pattern);
+    if (mode & LINE_READ_ONLY) protect(&line, 1);
+    if (mode & LINE_READ_ONLY) protect(&house, 1);
+    int64_t result = ticketmoss_order_write(line.at, length, house.at, house_length, buffer.at, size);
+    if (mode & LINE_READ_ONLY) protect(&line, 0);
+    if (mode & LINE_READ_ONLY) protect(&house, 0);
+    if (wrong) spoil_written(&result);
+    int flags = memcmp(line.at, bytes, length) ? LINE_CHANGED : 0;
+    if (memcmp(house.at, house_bytes, house_length)) flags |= HOUSE_CHANGED;
+    flags |= beside_changed(&line) | beside_changed(&house) | beside_changed(&buffer);
+    put_answer(result, 1, flags, pattern);
+}
+
+static void read_order(uint8_t pattern) {
+    TAKE(uint16_t, length);
+    TAKE(uint16_t, size);
+    const uint8_t *bytes = take(length);
+    if (size % 8) give_up();
+    lend_bytes(&line, bytes, length);
+    lend_buffer(size, pattern);
+    if (mode & LINE_READ_ONLY) protect(&line, 1);
+    int64_t result = ticketmoss_order_read(line.at, length, (uint64_t *)(void *)buffer.at, size / 8);
+    if (mode & LINE_READ_ONLY) protect(&line, 0);
+    if (wrong) spoil_read(&result);
+    int flags = memcmp(line.at, bytes, length) ? LINE_CHANGED : 0;
+    put_answer(result, 8, flags | beside_changed(&line) | beside_changed(&buffer), pattern);
 }
 
 static int64_t try_state(void) {
@@ -344,6 +452,20 @@ static void obey(void) {
         }
         break;
     }
+    case 'O': {
+        TAKE(uint8_t, m);
+        TAKE(uint8_t, pattern);
+        TAKE(uint32_t, n);
+        mode = m;
+        while (n--) {
+            TAKE(uint8_t, reading);
+            if (reading)
+                read_order(pattern);
+            else
+                write_order(pattern);
+        }
+        break;
+    }
     default: give_up();
     }
 }
@@ -353,6 +475,7 @@ int main(int arguments, char **argument) {
     page = (size_t)sysconf(_SC_PAGESIZE);
     words = reserve(MOST_WORDS * 8);
     line = reserve(MOST_LINE);
+    house = reserve(MOST_HOUSE);
     buffer = reserve(MOST_BUFFER);
     base = malloc(MOST_WORDS * 8);
     before = malloc(MOST_WORDS * 8);
