@@ -15,7 +15,7 @@ pub const MOST_LINE: usize = 400;
 
 /// The parts of this comparison.
 pub const PARTS: usize = 2 * (3 + CONTENTS);
-const CONTENTS: usize = 10;
+pub const CONTENTS: usize = 10;
 
 const DAY: [&[u8]; 7] = [
     b"G\tABCD\t5000000000\t5000000000\t2000000000\t2000000000\t6000000000\t6000000000\t25000\tN\n",
@@ -85,7 +85,7 @@ pub fn make(part: usize) -> Batch {
 }
 
 /// A line of this length.
-fn line(content: usize, length: usize, rng: &mut Rng) -> Vec<u8> {
+pub fn line(content: usize, length: usize, rng: &mut Rng) -> Vec<u8> {
     // A beginning, and what follows until the line is long enough.
     let (start, filler): (&[u8], u8) = match content {
         0 => (b"N\tT2\tABCD\t7\tB\t1\t10000000", b'0'),

@@ -1,5 +1,5 @@
 //! Holds the proved gate's static library against this crate's reading of the documents: the
-//! same lines, the same memories, the same buffers on both sides.
+//! same lines, the same memories, the same order messages, the same buffers on both sides.
 //!
 //!     compare --worker PROGRAM [--through SCRIPT] [--jobs N] [--to FILE]
 //!             [RECORDS [MEMORIES [SEED]]]
@@ -18,9 +18,12 @@ mod day;
 mod lengths;
 mod map;
 mod memories;
+mod messages;
+mod orders;
 mod report;
 mod run;
 mod shrink;
+mod slip;
 mod states;
 mod store;
 mod trial;
@@ -107,7 +110,8 @@ fn compare(
     to: &std::path::Path,
 ) -> Result<ExitCode, String> {
     let begun = Instant::now();
-    let work = Work::plan(settings.seed, records, memories);
+    // As many order messages are drawn as records.
+    let work = Work::plan(settings.seed, records, memories).and_messages(records);
     let outcome = run::run(settings, &work)?;
     let (seconds, seed) = (begun.elapsed().as_secs(), settings.seed);
     if let Some(found) = outcome.found {
@@ -119,12 +123,12 @@ fn compare(
         println!("seed {seed}: a difference, see {}", to.display());
         return Ok(ExitCode::FAILURE);
     }
-    print!("records by kind and number:\n{}", outcome.counts.text());
-    let never = outcome.counts.never();
+    let (counts, tally, answers) = (&outcome.met.counts, &outcome.met.tally, &outcome.met.answers);
+    print!("records by kind and number:\n{}", counts.text());
+    let never = counts.never();
     if !never.is_empty() {
         println!("never met: {}", never.join(", "));
     }
-    let tally = &outcome.tally;
     println!("memories by the state rule that they break:");
     for (rule, n) in &tally.refused {
         println!("{n:8}  {rule}");
@@ -137,10 +141,17 @@ fn compare(
     for row in numbers.chunks(6) {
         println!("{}", row.concat());
     }
+    print!("{}", answers.text());
+    let never = answers.never();
+    if !never.is_empty() {
+        println!("never met: {}", never.join(", "));
+    }
     println!(
         "{records} records in {} days, {memories} memories ({good} good, {refused} refused), \
-         {} buffer lengths, {} line lengths, {seconds} s, seed {seed}: no difference",
+         {} order messages, {} buffer lengths, {} line lengths, {seconds} s, seed {seed}: \
+         no difference",
         work.days,
+        answers.all(),
         lengths::MOST_BUFFER + 1,
         lengths::MOST_LINE + 1,
     );

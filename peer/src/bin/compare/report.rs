@@ -6,13 +6,18 @@ use crate::count::Counts;
 use crate::day::{self, Day, Peer};
 use crate::map;
 use crate::memories::{changes, Batch, Judged, Tally};
+use crate::messages::{self, rows, Call};
 use crate::worker::{Command, Program, Worker, AT_START, LINE_READ_ONLY};
 use crate::wrong::Wrong;
 
-fn lent(mode: u8) -> String {
+/// How slices lie; `read` is what is read-only in some modes.
+fn lent(mode: u8, read: &str) -> String {
     let side = if mode & AT_START == 0 { "end before" } else { "begin behind" };
-    let line = if mode & LINE_READ_ONLY == 0 { "" } else { ", the line is read-only" };
-    format!("The lent slices {side} a page that cannot be touched{line}.\n")
+    let mut text = format!("The lent slices {side} a page that cannot be touched");
+    if mode & LINE_READ_ONLY != 0 {
+        text += &format!(", {read} is read-only");
+    }
+    text + ".\n"
 }
 
 fn sides(library: &Result<String, String>, peer: &str) -> String {
@@ -27,7 +32,7 @@ pub fn day(day: &Day, first: &str, program: &Program, wrong: Wrong) -> String {
     let (lines, words, room) = (day.steps.len(), day.words, memory::room(day.words));
     let mut text = format!("A day on which the two sides differ. First seen as\n{first}\n\n");
     text += &format!("{lines} lines, {words} words (room for {room} places), ");
-    text += &format!("all {} before the fresh state. {}\n", day.fill, lent(day.mode));
+    text += &format!("all {} before the fresh state. {}\n", day.fill, lent(day.mode, "the line"));
     let Ok(mut worker) = Worker::start(program) else {
         return text;
     };
@@ -84,7 +89,7 @@ pub fn memory(batch: &Batch, program: &Program, wrong: Wrong) -> String {
     let rule = memory::broken_rule(words).unwrap_or("none");
     let mut text = "A memory of which the two sides think differently.\n\n".to_string();
     text += &format!("{} words (room for {} places). ", words.len(), memory::room(words.len()));
-    text += &lent(batch.mode);
+    text += &lent(batch.mode, "the line");
     text += &format!("State rule that is broken, by the peer: {rule}.\n");
     text +=
         &format!("All words are 0 but {} of them:\n", words.iter().filter(|w| **w != 0).count());
@@ -118,5 +123,49 @@ pub fn memory(batch: &Batch, program: &Program, wrong: Wrong) -> String {
     part("record", &|j| j.record.text());
     part("words changed by the record", &|j| changes(&j.changed, count));
     part("closing line", &|j| j.closing.text());
+    text
+}
+
+/// Calls about order messages, and what each side gave.
+pub fn messages(batch: &messages::Batch, first: &str, program: &Program, wrong: Wrong) -> String {
+    let mut text =
+        format!("Order messages on which the two sides differ. First seen as\n{first}\n\n");
+    text += &format!(
+        "Buffers are filled with {:02x}. {}",
+        batch.pattern,
+        lent(batch.mode, "what is read")
+    );
+    let listed = |bytes: &[u8]| -> String {
+        let rows = rows(bytes).into_iter();
+        rows.map(|row| format!("            {row}\n")).collect()
+    };
+    let ours = Worker::start(program).map_err(|error| error.to_string()).and_then(|mut worker| {
+        worker.send(batch.ask());
+        worker.reply()
+    });
+    let mut ours = ours.map_err(|stopped| text += &format!("   library: {stopped}\n"));
+    for call in &batch.calls {
+        text += &match call {
+            Call::Write { line, house, size } => format!(
+                "\n\"{}\" written to {size} bytes, with a house message of {}:\n{}",
+                line.escape_ascii(),
+                house.len(),
+                listed(house)
+            ),
+            Call::Read { message, count } => format!(
+                "\nread to {count} words, a message of {} bytes:\n{}",
+                message.len(),
+                listed(message)
+            ),
+        };
+        let theirs = call.peer(batch.pattern, wrong);
+        text += &match &mut ours {
+            Ok(reply) => {
+                let ours = reply.answer();
+                sides(&Ok(call.text(&ours, &theirs)), &call.text(&theirs, &ours))
+            }
+            Err(()) => format!("      peer: {}\n", call.text(&theirs, &theirs)),
+        };
+    }
     text
 }

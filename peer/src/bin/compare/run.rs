@@ -12,6 +12,8 @@ use crate::count::Counts;
 use crate::day::{self, Day};
 use crate::lengths;
 use crate::memories::{self, Batch, Tally};
+use crate::messages::{self, Answers};
+use crate::orders;
 use crate::report;
 use crate::shrink::Shrinker;
 use crate::states::{self, Kind, LENGTHS, VARIANTS};
@@ -36,14 +38,18 @@ enum Task {
     Lengths(usize),
     Day { index: u64, most: usize },
     Memories { index: u64, kind: Kind, variants: usize },
+    Sweep(usize),
+    Messages { index: u64, calls: usize },
 }
 
 /// All comparisons of a run.
+#[derive(Default)]
 pub struct Work {
     tasks: Vec<Task>,
     pub days: usize,
     records: u64,
     memories: u64,
+    messages: u64,
 }
 
 impl Work {
@@ -61,7 +67,18 @@ impl Work {
             days += 1;
         }
         let (records, memories) = (records as u64, memories as u64);
-        Work { tasks, days: days as usize, records, memories }
+        Work { tasks, days: days as usize, records, memories, messages: 0 }
+    }
+
+    /// The same, and order messages: every length and every byte, and so many that are drawn.
+    pub fn and_messages(mut self, messages: usize) -> Work {
+        self.tasks.extend((0..orders::PARTS).map(Task::Sweep));
+        for (index, first) in (0..messages).step_by(orders::CALLS).enumerate() {
+            let calls = orders::CALLS.min(messages - first);
+            self.tasks.push(Task::Messages { index: index as u64, calls });
+        }
+        self.messages += messages as u64;
+        self
     }
 }
 
@@ -102,6 +119,7 @@ fn memory_tasks(memories: usize) -> Vec<Task> {
 pub enum Case {
     Day(Day),
     Memory(Batch, Option<usize>),
+    Message(messages::Batch, Option<usize>),
     /// A call about lengths; there is nothing to make smaller.
     Lengths,
 }
@@ -112,10 +130,17 @@ pub struct Found {
     pub difference: Difference,
 }
 
-/// What came of a run.
-pub struct Outcome {
+/// What was met.
+#[derive(Default)]
+pub struct Met {
     pub counts: Counts,
     pub tally: Tally,
+    pub answers: Answers,
+}
+
+/// What came of a run.
+pub struct Outcome {
+    pub met: Met,
     pub found: Option<Found>,
 }
 
@@ -126,6 +151,7 @@ struct Shared {
     done: AtomicBool,
     records: AtomicU64,
     memories: AtomicU64,
+    messages: AtomicU64,
     found: Mutex<Vec<Found>>,
 }
 
@@ -133,7 +159,7 @@ struct Shared {
 pub fn run(settings: &Settings, work: &Work) -> Result<Outcome, String> {
     Worker::try_start(&settings.program)?;
     let shared = Shared::default();
-    let mut outcome = Outcome { counts: Counts::default(), tally: Tally::default(), found: None };
+    let mut outcome = Outcome { met: Met::default(), found: None };
     thread::scope(|scope| {
         let threads: Vec<_> = (0..settings.jobs.max(1))
             .map(|_| scope.spawn(|| serve(settings, work, &shared)))
@@ -144,9 +170,10 @@ pub fn run(settings: &Settings, work: &Work) -> Result<Outcome, String> {
         let mut failed = None;
         for thread in threads {
             match thread.join() {
-                Ok(Ok((counts, tally))) => {
-                    outcome.counts.merge(&counts);
-                    outcome.tally.merge(&tally);
+                Ok(Ok(met)) => {
+                    outcome.met.counts.merge(&met.counts);
+                    outcome.met.tally.merge(&met.tally);
+                    outcome.met.answers.merge(&met.answers);
                 }
                 Ok(Err(text)) => failed = Some(text),
                 Err(_) => failed = Some("a thread of the harness failed".to_string()),
@@ -167,30 +194,33 @@ fn tell(work: &Work, shared: &Shared) {
         thread::sleep(Duration::from_millis(100));
         if told.elapsed() >= Duration::from_secs(5) {
             told = Instant::now();
-            let (records, memories) = (shared.records.load(Relaxed), shared.memories.load(Relaxed));
+            let done = [&shared.records, &shared.memories, &shared.messages];
+            let [records, memories, messages] = done.map(|n| n.load(Relaxed));
             let seconds = begun.elapsed().as_secs();
             eprintln!(
-                "{records} of {} records, {memories} of {} memories, {seconds} s",
-                work.records, work.memories
+                "{records} of {} records, {memories} of {} memories, {messages} of {} messages, \
+                 {seconds} s",
+                work.records, work.memories, work.messages
             );
         }
     }
 }
 
 /// One thread: takes the next comparison until there is none.
-fn serve(settings: &Settings, work: &Work, shared: &Shared) -> Result<(Counts, Tally), String> {
+fn serve(settings: &Settings, work: &Work, shared: &Shared) -> Result<Met, String> {
     let start = || Worker::start(&settings.program).map_err(|error| format!("worker: {error}"));
     let mut worker = start()?;
-    let (mut counts, mut tally) = (Counts::default(), Tally::default());
+    let mut met = Met::default();
     while !shared.stop.load(Relaxed) {
         let at = shared.next.fetch_add(1, Relaxed);
         let Some(task) = work.tasks.get(at) else {
             break;
         };
-        let result = compare(*task, settings, &mut worker, &mut counts, &mut tally);
+        let result = compare(*task, settings, &mut worker, &mut met);
         match *task {
             Task::Day { most, .. } => shared.records.fetch_add(most as u64, Relaxed),
             Task::Memories { variants, .. } => shared.memories.fetch_add(variants as u64, Relaxed),
+            Task::Messages { calls, .. } => shared.messages.fetch_add(calls as u64, Relaxed),
             _ => 0,
         };
         if let Err((case, difference)) = result {
@@ -200,15 +230,14 @@ fn serve(settings: &Settings, work: &Work, shared: &Shared) -> Result<(Counts, T
             }
         }
     }
-    Ok((counts, tally))
+    Ok(met)
 }
 
 fn compare(
     task: Task,
     settings: &Settings,
     worker: &mut Worker,
-    counts: &mut Counts,
-    tally: &mut Tally,
+    met: &mut Met,
 ) -> Result<(), (Case, Difference)> {
     let (seed, wrong) = (settings.seed, settings.wrong);
     let lengths = |result: Result<(), Difference>| result.map_err(|d| (Case::Lengths, d));
@@ -217,7 +246,7 @@ fn compare(
         Task::Fresh => lengths(lengths::fresh(worker)),
         Task::Day { index, most } => {
             let day = day::make(seed, index, most);
-            day::compare(&day, worker, wrong, counts).map_err(|d| (Case::Day(day), d))
+            day::compare(&day, worker, wrong, &mut met.counts).map_err(|d| (Case::Day(day), d))
         }
         Task::Lengths(part) => {
             let batch = lengths::make(part);
@@ -226,8 +255,18 @@ fn compare(
         }
         Task::Memories { index, kind, variants } => {
             let batch = states::make(seed, index, kind, variants);
-            memories::compare(&batch, worker, wrong, tally)
+            memories::compare(&batch, worker, wrong, &mut met.tally)
                 .map_err(|(which, d)| (Case::Memory(batch, which), d))
+        }
+        Task::Sweep(part) => {
+            let batch = orders::sweep(part);
+            messages::compare(&batch, worker, wrong, &mut met.answers)
+                .map_err(|(which, d)| (Case::Message(batch, which), d))
+        }
+        Task::Messages { index, calls } => {
+            let batch = orders::make(seed, index, calls);
+            messages::compare(&batch, worker, wrong, &mut met.answers)
+                .map_err(|(which, d)| (Case::Message(batch, which), d))
         }
     }
 }
@@ -241,6 +280,7 @@ pub fn shrink(settings: &Settings, found: &Found) -> Case {
             Some(batch) => Case::Memory(batch, Some(0)),
             None => Case::Memory(batch.clone(), *which),
         },
+        Case::Message(batch, which) => Case::Message(shrinker.messages(batch, *which), None),
         Case::Lengths => Case::Lengths,
     }
 }
@@ -260,6 +300,9 @@ pub fn report(settings: &Settings, found: &Found, least: &Case) -> String {
                 "Only in a row of {count} memories (seed {}), at {which}: {first}\n",
                 settings.seed
             )
+        }
+        Case::Message(batch, _) => {
+            report::messages(batch, first, &settings.program, settings.wrong)
         }
         Case::Lengths => format!("{first}\n"),
     }

@@ -2,12 +2,15 @@
 
 use peer::gate::Gate;
 use peer::memory;
+use peer::message::{BYTES, WORDS};
 
 use crate::alter::book_order;
 use crate::count::Counts;
 use crate::day::{self, Day, Step};
 use crate::map::{self, Region};
 use crate::memories::{self, Batch, Tally, Variant};
+use crate::messages::{self, Answers, Call};
+use crate::orders::{plain_house, plain_message, PLAIN_LINE};
 use crate::worker::{Program, Worker};
 use crate::wrong::Wrong;
 use crate::Difference;
@@ -199,6 +202,62 @@ impl Shrinker<'_> {
         };
         Some(only(&fewest(used, |kept| self.batch_fails(&only(kept)))))
     }
+
+    fn messages_fail(&self, batch: &messages::Batch) -> bool {
+        let Ok(mut worker) = Worker::start(self.program) else {
+            return false;
+        };
+        messages::compare(batch, &mut worker, self.wrong, &mut Answers::default()).is_err()
+    }
+
+    /// The fewest calls; of one call, the fewest bytes that are not plain.
+    pub fn messages(&self, batch: &messages::Batch, which: Option<usize>) -> messages::Batch {
+        let with = |calls: &[Call]| messages::Batch { calls: calls.to_vec(), ..*batch };
+        let fails = |calls: &[Call]| self.messages_fail(&with(calls));
+        let alone = which.map(|i| vec![batch.calls[i].clone()]).filter(|call| fails(call));
+        let calls = alone.unwrap_or_else(|| fewest(batch.calls.clone(), fails));
+        let one = |call: Call| fails(&[call]);
+        match &calls[..] {
+            [Call::Write { line, house, size }] => {
+                let write = |line: &[u8], house: &[u8], size: usize| {
+                    let (line, house) = (line.to_vec(), house.to_vec());
+                    Call::Write { line, house, size }
+                };
+                let size = if one(write(line, house, BYTES)) { BYTES } else { *size };
+                let line = match one(write(PLAIN_LINE, house, size)) {
+                    true => PLAIN_LINE.to_vec(),
+                    false => fewest(line.clone(), |line| one(write(line, house, size))),
+                };
+                let house = plainest(house, &plain_house(), |house| one(write(&line, house, size)));
+                with(&[write(&line, &house, size)])
+            }
+            [Call::Read { message, count }] => {
+                let read = |message: &[u8], count: usize| {
+                    let message = message.to_vec();
+                    Call::Read { message, count }
+                };
+                let count = if one(read(message, WORDS)) { WORDS } else { *count };
+                let message = plainest(message, &plain_message(), |m| one(read(m, count)));
+                with(&[read(&message, count)])
+            }
+            _ => with(&calls),
+        }
+    }
+}
+
+/// A plain message, or the bytes with as many as can be replaced by its bytes.
+fn plainest(bytes: &[u8], plain: &[u8], fails: impl Fn(&[u8]) -> bool) -> Vec<u8> {
+    if fails(plain) {
+        return plain.to_vec();
+    }
+    let plain = |at: usize| plain.get(at).copied().unwrap_or(0);
+    let other: Vec<usize> = (0..bytes.len()).filter(|&at| bytes[at] != plain(at)).collect();
+    let keep = |kept: &[usize]| {
+        let mut all: Vec<u8> = (0..bytes.len()).map(plain).collect();
+        kept.iter().for_each(|&at| all[at] = bytes[at]);
+        all
+    };
+    keep(&fewest(other, |kept| fails(&keep(kept))))
 }
 
 /// Only these rows of a region; of places the key, request and order, with totals that go
@@ -233,7 +292,7 @@ fn keep_rows(words: &[u64], region: Region, rows: &[usize]) -> Vec<u64> {
 
 #[cfg(test)]
 mod tests {
-    use super::fewest;
+    use super::{fewest, plainest};
 
     #[test]
     fn only_what_is_needed_is_left() {
@@ -241,5 +300,15 @@ mod tests {
         let fails = |items: &[u32]| needed.iter().all(|n| items.contains(n));
         assert_eq!(fewest((0..100).collect(), fails), needed);
         assert_eq!(fewest((0..100).collect(), |_: &[u32]| true), []);
+    }
+
+    #[test]
+    fn only_bytes_that_are_needed_stay() {
+        let bytes: Vec<u8> = (100..140).collect();
+        let fails = |tried: &[u8]| tried.len() == 40 && tried[7] == 107 && tried[39] == 139;
+        let mut expected = vec![b'x'; 30];
+        expected.resize(40, 0);
+        (expected[7], expected[39]) = (107, 139);
+        assert_eq!(plainest(&bytes, &[b'x'; 30], fails), expected);
     }
 }

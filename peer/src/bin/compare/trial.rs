@@ -6,7 +6,10 @@ use std::process::ExitCode;
 use std::time::Duration;
 
 use crate::count::numbers;
+use crate::messages::Call;
+use crate::orders::{plain_house, plain_message};
 use crate::run::{self, Case, Settings, Work};
+use crate::slip;
 use crate::worker::Program;
 use crate::wrong::Wrong;
 
@@ -26,11 +29,12 @@ fn peer_side() -> Vec<(Wrong, String)> {
         (Wrong::Sums, "open values not held against the table"),
     ];
     let others = others.into_iter().map(|(wrong, what)| (wrong, what.to_string()));
-    numbers.chain(letters).chain(others).collect()
+    let slips = slip::all().into_iter().map(|(slip, what)| (Wrong::Message(slip), what));
+    numbers.chain(letters).chain(others).chain(slips).collect()
 }
 
 /// What is wrong on the worker's side, by its argument.
-const WORKER_SIDE: [&str; 10] = [
+const WORKER_SIDE: [&str; 29] = [
     "a byte behind the line is read",
     "a byte before the words is read",
     "a byte behind the buffer is read",
@@ -41,7 +45,29 @@ const WORKER_SIDE: [&str; 10] = [
     "a short buffer is written to",
     "22 returned as 21",
     "a byte behind the line of an F is read, with two places taken",
+    "a byte behind the house message is read",
+    "a byte before the house message is read",
+    "a byte behind the line of an order that is written is read",
+    "a byte past the message is changed",
+    "the line of an order that is written is changed",
+    "the house message is changed",
+    "a byte beside the house message is changed",
+    "a buffer is written to with 41",
+    "a buffer is written to with 42",
+    "a buffer is written to with 43",
+    "a byte behind a message is read",
+    "a byte before a message is read",
+    "a byte behind the words of a message is read",
+    "a word past the words of a message is changed",
+    "a message that is read is changed",
+    "words are written to with 41",
+    "words are written to with 42",
+    "words are written to with 43",
+    "43 returned as 42",
 ];
+
+/// The first of them that is about order messages.
+const FIRST_OF_MESSAGES: u32 = 11;
 
 /// Tries each; fails if one is not noticed. The smallest inputs are written to a file, if one
 /// is given.
@@ -71,8 +97,9 @@ pub fn all(program: &Program, seed: u64, to: Option<&Path>) -> Result<ExitCode, 
 
 /// How small an input showed it, and that input.
 fn one(settings: &Settings) -> Option<(String, String)> {
-    let work = match settings.wrong {
-        Wrong::Sums => Work::plan(settings.seed, 0, 20_000),
+    let work = match (settings.wrong, settings.program.wrong) {
+        (Wrong::Sums, _) => Work::plan(settings.seed, 0, 20_000),
+        (Wrong::Message(_), _) | (_, FIRST_OF_MESSAGES..) => Work::default().and_messages(20_000),
         _ => Work::plan(settings.seed, 200_000, 0),
     };
     let outcome = run::run(settings, &work).ok()?;
@@ -85,7 +112,29 @@ fn one(settings: &Settings) -> Option<(String, String)> {
             let words = batch.base.iter().filter(|word| **word != 0).count();
             format!("a memory with {words} words that are not 0")
         }
+        Case::Message(batch, _) => match &batch.calls[..] {
+            [Call::Write { line, house, .. }] => {
+                let house = not_plain("house message", house, &plain_house());
+                format!("a line of {} bytes and {house}", line.len())
+            }
+            [Call::Read { message, .. }] => not_plain("message", message, &plain_message()),
+            calls => format!("{} calls", calls.len()),
+        },
         Case::Lengths => "a call about lengths".to_string(),
     };
     Some((size, run::report(settings, &found, &least)))
+}
+
+/// How much of a message is not as in a plain one.
+fn not_plain(what: &str, bytes: &[u8], plain: &[u8]) -> String {
+    let of = match bytes.len() {
+        length if length == plain.len() => String::new(),
+        1 => " of 1 byte".to_string(),
+        length => format!(" of {length} bytes"),
+    };
+    match bytes.iter().zip(plain).filter(|(a, b)| a != b).count() {
+        0 => format!("a plain {what}{of}"),
+        1 => format!("a {what}{of} with 1 byte that is not plain"),
+        n => format!("a {what}{of} with {n} bytes that are not plain"),
+    }
 }

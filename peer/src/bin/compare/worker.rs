@@ -235,9 +235,20 @@ impl Answered {
 
     /// A call that filled a buffer that held a pattern.
     pub fn seen(result: i64, buffer: &[u8], pattern: u8) -> Answered {
+        Answered::filled(result, 1, buffer, pattern)
+    }
+
+    /// The same with words, whose every byte held the pattern.
+    pub fn seen_words(result: i64, words: &[u64], pattern: u8) -> Answered {
+        let bytes: Vec<u8> = words.iter().flat_map(|word| word.to_le_bytes()).collect();
+        Answered::filled(result, 8, &bytes, pattern)
+    }
+
+    /// A result that counts items of so many bytes.
+    fn filled(result: i64, item: usize, buffer: &[u8], pattern: u8) -> Answered {
         let changed = buffer.iter().rposition(|&b| b != pattern).map_or(0, |i| i + 1);
-        let length = changed.max(usize::try_from(result).unwrap_or(0));
-        Answered { result, flags: 0, bytes: buffer[..length].to_vec() }
+        let length = changed.max(usize::try_from(result).unwrap_or(0) * item);
+        Answered { result, flags: 0, bytes: buffer[..length.min(buffer.len())].to_vec() }
     }
 
     /// For people.
@@ -251,11 +262,18 @@ impl Answered {
             let length = self.bytes.len();
             text += &format!(" (returned {}, but {length} bytes were written)", self.result);
         }
-        for (flag, what) in [(1, "the line"), (2, "bytes beside a slice"), (4, "the words")] {
-            if self.flags & flag != 0 {
-                text += &format!(" (and {what} changed)");
-            }
-        }
-        text
+        text + &self.beside()
+    }
+
+    /// What was done beside the result, for people.
+    pub fn beside(&self) -> String {
+        const FLAGS: [(u8, &str); 4] = [
+            (1, "the line or message"),
+            (2, "bytes beside a slice"),
+            (4, "the words"),
+            (8, "the house message"),
+        ];
+        let set = FLAGS.iter().filter(|(flag, _)| self.flags & flag != 0);
+        set.map(|(_, what)| format!(" (and {what} changed)")).collect()
     }
 }

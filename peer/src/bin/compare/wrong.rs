@@ -4,9 +4,10 @@ use std::ops::RangeInclusive;
 
 use peer::days::CEILING;
 use peer::gate::{Answer, Gate};
-use peer::memory;
+use peer::{memory, message};
 
 use crate::map::Region;
+use crate::slip::Slip;
 
 /// The numbers of the six metrics.
 const METRICS: RangeInclusive<u8> = 31..=36;
@@ -31,6 +32,8 @@ pub enum Wrong {
     Closing,
     /// Open values are not held against the table.
     Sums,
+    /// Order messages are written or read wrongly.
+    Message(Slip),
 }
 
 impl Wrong {
@@ -71,6 +74,22 @@ impl Wrong {
         let traded = Region::Group.at(0, 0, 10);
         if self == Wrong::Word && words.get(traded).is_some_and(|&w| w > 0) {
             words[traded] += 1;
+        }
+    }
+
+    /// Writes an order as a message.
+    pub fn write(self, line: &[u8], house: &[u8], to: &mut [u8]) -> i64 {
+        match self {
+            Wrong::Message(slip) => slip.write(line, house, to),
+            _ => message::write(line, house, to),
+        }
+    }
+
+    /// Reads a message.
+    pub fn read(self, message: &[u8], to: &mut [u64]) -> i64 {
+        match self {
+            Wrong::Message(slip) => slip.read(message, to),
+            _ => message::read(message, to),
         }
     }
 
