@@ -6,7 +6,7 @@
 use peer::days::rng::Rng;
 use peer::days::CEILING;
 use peer::gate::Gate;
-use peer::memory;
+use peer::{memory, message};
 use std::fmt::Write as _;
 use std::hint::black_box;
 use std::process::{Command, Stdio};
@@ -189,6 +189,89 @@ fn stages(name: &str, places: usize, taken: u64, turns: usize) {
     row("peer", 0.0, [damaged.1, unlisted.1, retried.1, passed.1]);
 }
 
+/// A house message: a displayed limit order of regular hours that is not routed, for account HOUSE.
+fn house() -> [u8; ticketmoss::MESSAGE_BYTES] {
+    use message::Field;
+    let mut house = [0; ticketmoss::MESSAGE_BYTES];
+    let mut put =
+        |field: Field, text: &[u8]| house[field.place()][..text.len()].copy_from_slice(text);
+    put(Field::MessageType, &message::TYPE);
+    put(Field::Mpid, b"    ");
+    put(Field::OrderInstructions, &[1 << 3]);
+    put(Field::TimeInForce, b"R");
+    put(Field::OrderType, b"1");
+    put(Field::PriceSliding, b"N");
+    put(Field::SelfTradeProtectionGroup, b" ");
+    put(Field::Routing, &[2]);
+    put(Field::Capacity, b"A");
+    put(Field::Account, b"HOUSE");
+    put(Field::PurgeGroup, b" ");
+    house
+}
+
+/// The best of several turns of the gate and of the peer, nanoseconds for each of so many calls.
+fn turns(count: usize, mut gate: impl FnMut(), mut peer: impl FnMut()) -> (f64, f64) {
+    let each = |call: &mut dyn FnMut()| {
+        let from = Instant::now();
+        call();
+        from.elapsed().as_nanos() as f64 / count as f64
+    };
+    let mut best = (f64::MAX, f64::MAX);
+    for _ in 0..100 * TURNS {
+        best.0 = best.0.min(each(&mut gate));
+        best.1 = best.1.min(each(&mut peer));
+    }
+    best
+}
+
+/// Orders written as messages and read back, by both; what they give is compared first.
+fn messages(count: u64) {
+    let house = house();
+    let lines: Vec<String> = (0..count).map(order).collect();
+    let mut messages = Vec::new();
+    for line in &lines {
+        let (mut ours, mut theirs) = ([0; ticketmoss::MESSAGE_BYTES], [1; message::BYTES]);
+        let written = ticketmoss::order_write(line.as_bytes(), &house, &mut ours);
+        assert_eq!(written, Ok(theirs.len()), "{line}");
+        assert_eq!(message::write(line.as_bytes(), &house, &mut theirs), theirs.len() as i64);
+        assert_eq!(ours, theirs, "{line}");
+        let (mut words, mut other) = ([0; ticketmoss::ORDER_WORDS], [1; message::WORDS]);
+        assert_eq!(ticketmoss::order_read(&ours, &mut words), Ok(other.len()), "{line}");
+        assert_eq!(message::read(&ours, &mut other), other.len() as i64);
+        assert_eq!(words, other, "{line}");
+        messages.push(ours);
+    }
+    let row = |name: &str, (ours, theirs): (f64, f64)| {
+        println!("| {name} | {count} | {ours:.1} | {theirs:.1} | {:.1} |", ours / theirs);
+    };
+    let (mut ours, mut theirs) = ([0; ticketmoss::MESSAGE_BYTES], [0; message::BYTES]);
+    let gate = || {
+        for line in &lines {
+            black_box(
+                ticketmoss::order_write(line.as_bytes(), &house, black_box(&mut ours)).is_ok(),
+            );
+        }
+    };
+    let peer = || {
+        for line in &lines {
+            black_box(message::write(line.as_bytes(), &house, black_box(&mut theirs)));
+        }
+    };
+    row("writing", turns(lines.len(), gate, peer));
+    let (mut ours, mut theirs) = ([0; ticketmoss::ORDER_WORDS], [0; message::WORDS]);
+    let gate = || {
+        for message in &messages {
+            black_box(ticketmoss::order_read(message, black_box(&mut ours)).is_ok());
+        }
+    };
+    let peer = || {
+        for message in &messages {
+            black_box(message::read(message, black_box(&mut theirs)));
+        }
+    };
+    row("reading", turns(lines.len(), gate, peer));
+}
+
 /// Seconds that a program takes for a day, and what it writes; the best of several turns.
 fn program(command: &[String], day: &str, turns: usize) -> Option<(f64, Vec<u8>)> {
     let mut best = f64::MAX;
@@ -289,4 +372,8 @@ fn main() {
         checked(&full, 5) / 1000.0,
         retried / 1000.0
     );
+
+    println!("\nOrder messages, nanoseconds a message:\n");
+    println!("| call | messages | gate | peer | times as long |\n|---|---|---|---|---|");
+    messages(1_000);
 }
