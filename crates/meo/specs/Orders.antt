@@ -107,6 +107,16 @@ read-order m n q =
     got none = n
     got (some x) = x
 
+-- THEOREM. Two N that leave as the same bytes say the same, whatever their house messages
+pub told-apart : (l l' : List ℕ) (n n' : NewOrder) (h h' b b' : List ℕ) → write-said l n h b .number ≡ 0 → write-said l' n' h' b' .number ≡ 0
+    → sent-bytes l n h b ≡ sent-bytes l' n' h' b' → order-said l n ≡ order-said l' n'
+told-apart l l' n n' h h' b b' e e' q =
+    let x = written-read l n h b e in
+    let y = written-read l' n' h' b' e' in
+    let m = sent-bytes l' n' h' b' in
+    let f = read-order m (x .0) (subst (λ (m : List ℕ). read-said m ≡ found-said (Found.Order (x .0))) q (x .1)) .1 ∙ sym (read-order m (y .0) (y .1) .1) in
+    sym (x .2) ∙ ap (λ (m : List ℕ). order-said m (x .0)) q ∙ ap (order-said m) f ∙ y .2
+
 -- THEOREM. The message is written again, if its other fields hold the house values
 pub read-written : (m : List ℕ) → All Byte m → (n : NewOrder) → read-said m ≡ found-said (Found.Order n) → (h b : List ℕ) → is-message h ≡ true → Holds m h 0 (table (order-said m n)) → 131 ≤ length b
     → (write-said m n h b ≡ sent-said Sent.Message) × (write-left m n h b ≡ begun m b)
