@@ -1,16 +1,16 @@
 -- Document 02, order 2, over the two calls: an N that is written and read back, a message that is read and written again, and whose line is written.
 use mathlib.Core.Path.{_≡_, refl, sym, ap, _∙_, subst}
-use mathlib.Core.Bool.{Bool, true, false, not, cond}
+use mathlib.Core.Bool.{true, false, cond}
 use mathlib.Core.Option.{Option, none, some}
 use mathlib.Core.Logic.{_↔_}
-use mathlib.Core.List.{List, [], _∷_, _++_}
+use mathlib.Core.List.{List, _++_}
 use Prim.Native.Nat.{ℕ, _≤_}
 use Prim.Native.Char.{code}
 use native.Mathlib.Omega.{arith}
 use lib.ListN.{length, take, drop, getD}
 use lib.Seq.{take-append-seam}
 use lib.Dec.{ltb, eqb}
-use borrow.Author.Tests.{not-false, ltb-true, ltb-false, le-ltb, lt-ltb, le-leb, eqb-true, eqb-false}
+use borrow.Author.Tests.{not-false, ltb-true, ltb-false, le-ltb, eqb-true}
 use Rattle.laws.specs.Tests.{on, is-none}
 use Rattle.laws.specs.Tables.{find, All}
 use Rattle.laws.specs.Checks.{Check, first, each, Clear, first-cases, rules-met}

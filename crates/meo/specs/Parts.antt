@@ -1,11 +1,10 @@
 -- Rows one after the other: where each stands, how long all are, and what is laid over a house message.
 use mathlib.Core.Path.{_≡_, refl, sym, ap, _∙_}
-use mathlib.Core.Bool.{true}
-use mathlib.Core.List.{List, [], _∷_, _++_, map, append-assoc, append-nil}
+use mathlib.Core.List.{List, [], _∷_, _++_, map, append-assoc}
 use Prim.Native.Nat.{ℕ, zero, suc, _+_, _-_, _*_, _/_, _%_, _^_, _≤_, _<_}
 use native.Mathlib.Omega.{arith}
 use native.Mathlib.Nat.{add-zero, zero-add, suc-add, pow-succ'}
-use lib.ListN.{length, take, drop, replicate, length-take, length-drop, length-append, length-replicate, take-append-drop}
+use lib.ListN.{length, take, drop, length-take, length-drop, length-append, length-replicate, take-append-drop}
 use lib.Seq.{take-all, take-nil, drop-drop, take-append-add, drop-append-add, take-append-seam, drop-append-seam, length-take-le, take-append-le, drop-append-le}
 use Rattle.laws.specs.Tables.{All, all-parts, sum, sum-append}
 use Rattle.rulebook.specs.Names.{word}

@@ -2,10 +2,10 @@
 use mathlib.Core.Path.{_≡_, refl, sym, ap, _∙_, subst}
 use mathlib.Core.Bool.{Bool, true, cond, false≢true}
 use mathlib.Core.Option.{Option, none, some}
-use mathlib.Core.List.{List, [], _∷_, _++_, append-assoc, append-nil}
-use Prim.Native.Nat.{ℕ, zero, suc, _+_, _-_, _*_, _/_, _%_, _≤_, _<_}
+use mathlib.Core.List.{List, [], _∷_, _++_, append-nil}
+use Prim.Native.Nat.{ℕ, zero, suc, _+_, _-_, _%_, _≤_, _<_}
 use native.Mathlib.Omega.{arith}
-use lib.ListN.{length, take, drop, getD, replicate, length-append, length-replicate, take-append-drop}
+use lib.ListN.{length, take, drop, getD, replicate, take-append-drop}
 use lib.Seq.{drop-cons, take-all}
 use borrow.Author.Tests.{eqb-true, ne-eqb}
 use Rattle.laws.specs.Tests.{on, both}
@@ -19,10 +19,10 @@ use Rattle.fields.specs.Series.{side-of}
 use Rattle.fields.specs.Packing.{Solid, all-take, all-drop}
 use Rattle.fields.specs.Values.{every-all, says-side, identifier-solid}
 use Rattle.packing.specs.Words.{row}
-use Rattle.meo.specs.Table.{filled, Row, string, alphanumeric, binary, house, upon, width, cell, lay, side-bits, instructions, Order, table}
-use Rattle.meo.specs.Messages.{order-said, in-form, is-message, message, write-said, write-left, text-width, letter-or, side-with, order-at, zeros, plain, Heard, found-said, read-said}
+use Rattle.meo.specs.Table.{filled, Row, string, alphanumeric, binary, house, upon, cell, lay, side-bits, instructions, Order, table}
+use Rattle.meo.specs.Messages.{order-said, in-form, is-message, message, text-width, letter-or, side-with, order-at, zeros, plain, found-said, read-said}
 use Rattle.meo.specs.Parts.{stretch-add, length-stretch, Byte, row-word, word-row, widths, Fits, lay-house, lay-rows}
-use Rattle.meo.specs.Laying.{Formed, formed, message-long, message-type, table-fits, message-length, text-width-most, own, bits-small, zero-rows, in-parts}
+use Rattle.meo.specs.Laying.{formed, message-long, table-fits, message-length, text-width-most, own, bits-small, zero-rows, in-parts}
 use Rattle.meo.specs.declared.NewOrder.{NewOrder}
 use Rattle.meo.specs.declared.Found.{Found}
 

@@ -1,7 +1,6 @@
 // The exchange's New Order Request (source document 000, 4.1.1): an N written as one, and one read back. docs/MESSAGE.md has the table's rows.
 ghost use mathlib.Core.Path.{_≡_};
 ghost use mathlib.Core.Bool.{true};
-ghost use mathlib.Core.List.{_++_};
 ghost use Prim.Native.Nat.{_+_, _≤_};
 ghost use lib.ListN.{length, replicate};
 ghost use Rattle.rulebook.specs.Names.{word};

@@ -1,7 +1,6 @@
 -- `meo::put_binary` meets its contract: the rest, put from here, makes what the whole makes.
 use borrow.Author.Needs.{needs}
 use mathlib.Core.Path.{_≡_, refl, _∙_}
-use mathlib.Core.List.{_∷_}
 use Prim.Native.Nat.{suc, _+_, _-_, _≤_}
 use native.Mathlib.Omega.{arith}
 use lib.ListN.{length}
