@@ -37,8 +37,8 @@ use Rattle.meo.specs.declared.Found.{Found}
 first-clear : (l : List Check) → each (λ n. ltb 0 n) l ≡ true → first l ≡ 0 → Clear l
 first-clear l e = first-cases (λ k. k ≡ 0 → Clear l) (λ n. ltb 0 n) l e (λ n p z. absurd (omega (arith, ltb-true 0 n p))) (λ c z. c)
 
-said-none : (k : ℕ) (x : Said) → x .number ≡ 0 → cond (eqb k 0) x (refuses k) .number ≡ 0 → k ≡ 0
-said-none k x z = on (λ t. eqb k 0 ≡ t → cond t x (refuses k) .number ≡ 0 → k ≡ 0) (eqb k 0) (λ e q p. eqb-true k 0 q) (λ e q p. p) refl
+said-none : (k : ℕ) (x : Said) → cond (eqb k 0) x (refuses k) .number ≡ 0 → k ≡ 0
+said-none k x = on (λ t. eqb k 0 ≡ t → cond t x (refuses k) .number ≡ 0 → k ≡ 0) (eqb k 0) (λ e q p. eqb-true k 0 q) (λ e q p. p) refl
 
 record Written (l : List ℕ) (n : NewOrder) (h b : List ℕ) : Type 0 where
   pub typed : is-message h ≡ true
@@ -47,7 +47,7 @@ record Written (l : List ℕ) (n : NewOrder) (h b : List ℕ) : Type 0 where
 
 written : (l : List ℕ) (n : NewOrder) (h b : List ℕ) → write-said l n h b .number ≡ 0 → Written l n h b
 unfolding write-said
-written l n h b e = let c = first-clear (write-checks l n h b) refl (said-none (first (write-checks l n h b)) (sent-said Sent.Message) refl e) in
+written l n h b e = let c = first-clear (write-checks l n h b) refl (said-none (first (write-checks l n h b)) (sent-said Sent.Message) e) in
     record { typed = not-false (is-message h) (c .0); formed = not-false (in-form l n) (c .1 .0); room = ltb-false (length b) 131 (c .1 .1 .0) }
 
 -- and what it leaves

@@ -152,7 +152,7 @@ fn is_order(line: &[u8], n: NewOrder) -> bool
 }
 
 // Whether bytes have a message's length and type.
-fn is_order_request(m: &[u8]) -> bool
+fn is_message(m: &[u8]) -> bool
     ensures { λ r. ⌜ r ≡ is-message (now (m .entry)) ⌝ }
 {
     if m.len() != LENGTH {
@@ -282,7 +282,7 @@ pub fn write(line: &[u8], n: NewOrder, house: &[u8], to: &mut [u8]) -> Sent
     ensures answer { λ r. ⌜ sent-said r ≡ write-said (now (line .entry)) n (now (house .entry)) (now (to .entry)) ⌝ }
     ensures buffer { λ _. ⌜ now (to .exit) ≡ write-left (now (line .entry)) n (now (house .entry)) (now (to .entry)) ⌝ }
 {
-    if !is_order_request(house) {
+    if !is_message(house) {
         return Sent::BadMessage;
     }
     if !is_order(line, n) {
@@ -412,7 +412,7 @@ fn is_plain(m: &[u8], end: usize) -> bool
 pub fn read(m: &[u8]) -> Found
     ensures { λ r. ⌜ found-said r ≡ read-said (now (m .entry)) ⌝ }
 {
-    if !is_order_request(m) {
+    if !is_message(m) {
         return Found::BadMessage;
     }
     let n = order_at(m);

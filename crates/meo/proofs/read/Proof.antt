@@ -7,12 +7,12 @@ use borrow.Author.Needs.{needs}
 use Rattle.meo.proofs.read.Statement.{statement}
 use Rattle.meo.proofs.read.Tie as tie
 
-is-order-request-requires : tie.Need-is-order-request-requires
-is-order-request-requires c κs = search needs
+is-message-requires : tie.Need-is-message-requires
+is-message-requires c κs = search needs
 
 returns : tie.Need-returns
 unfolding read-said first
-returns c = rw (sym (c .before .is-order-request .ensures) ∙ not-true _ (c .if1 .taken))
+returns c = rw (sym (c .before .is-message .ensures) ∙ not-true _ (c .if1 .taken))
 
 order-at-requires : tie.Need-order-at-requires
 order-at-requires c κs = search needs
@@ -22,24 +22,24 @@ is-order-requires c κs = search needs
 
 returns-2 : tie.Need-returns-2
 unfolding read-said first
-returns-2 c = rw (sym (c .before .before .before .before .is-order-request .ensures) ∙ not-false _ (c .before .before .before .if1 .left), ← c .before .before .order-at .ensures, sym (c .before .is-order .ensures) ∙ not-true _ (c .if2 .taken))
+returns-2 c = rw (sym (c .before .before .before .before .is-message .ensures) ∙ not-false _ (c .before .before .before .if1 .left), ← c .before .before .order-at .ensures, sym (c .before .is-order .ensures) ∙ not-true _ (c .if2 .taken))
 
 is-plain-requires : tie.Need-is-plain-requires
 is-plain-requires c κs = search needs
 
 returns-3 : tie.Need-returns-3
 unfolding read-said first
-returns-3 c = rw (sym (c .before .before .before .before .before .before .is-order-request .ensures) ∙ not-false _ (c .before .before .before .before .before .if1 .left), ← c .before .before .before .before .order-at .ensures, sym (c .before .before .before .is-order .ensures) ∙ not-false _ (c .before .before .if2 .left), sym (c .before .is-plain .ensures) ∙ not-true _ (c .if3 .taken))
+returns-3 c = rw (sym (c .before .before .before .before .before .before .is-message .ensures) ∙ not-false _ (c .before .before .before .before .before .if1 .left), ← c .before .before .before .before .order-at .ensures, sym (c .before .before .before .is-order .ensures) ∙ not-false _ (c .before .before .if2 .left), sym (c .before .is-plain .ensures) ∙ not-true _ (c .if3 .taken))
 
 returns-4 : tie.Need-returns-4
 unfolding read-said first
-returns-4 c = rw (sym (c .before .before .before .before .before .before .is-order-request .ensures) ∙ not-false _ (c .before .before .before .before .before .if1 .left), ← c .before .before .before .before .order-at .ensures, sym (c .before .before .before .is-order .ensures) ∙ not-false _ (c .before .before .if2 .left), sym (c .before .is-plain .ensures) ∙ not-false _ (c .if3 .left))
+returns-4 c = rw (sym (c .before .before .before .before .before .before .is-message .ensures) ∙ not-false _ (c .before .before .before .before .before .if1 .left), ← c .before .before .before .before .order-at .ensures, sym (c .before .before .before .is-order .ensures) ∙ not-false _ (c .before .before .if2 .left), sym (c .before .is-plain .ensures) ∙ not-false _ (c .if3 .left))
 
 pub read-spec : {M : Type 1} → statement M
 read-spec =
     tie.close
     (tie.spec
-    is-order-request-requires
+    is-message-requires
     returns
     order-at-requires
     is-order-requires

@@ -1,9 +1,9 @@
--- `meo::is_order_request` meets its contract: each test is one of the three.
+-- `meo::is_message` meets its contract: each test is one of the three.
 use borrow.Author.Needs.{needs}
 use borrow.Author.Tests.{ne-eqb}
 use Rattle.meo.specs.Messages.{is-message}
-use Rattle.meo.proofs.is_order_request.Statement.{statement}
-use Rattle.meo.proofs.is_order_request.Tie as tie
+use Rattle.meo.proofs.is_message.Statement.{statement}
+use Rattle.meo.proofs.is_message.Tie as tie
 
 returns : tie.Need-returns
 unfolding is-message
@@ -23,5 +23,5 @@ returns-3 : tie.Need-returns-3
 unfolding is-message
 returns-3 c = rw (c .before .before .before .if1 .left, c .before .if2 .left)
 
-pub is-order-request-spec : {M : Type 1} → statement M
-is-order-request-spec = tie.close (tie.spec returns shared-slice-read-if2 returns-2 shared-slice-read-result returns-3)
+pub is-message-spec : {M : Type 1} → statement M
+is-message-spec = tie.close (tie.spec returns shared-slice-read-if2 returns-2 shared-slice-read-result returns-3)
