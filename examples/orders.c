@@ -32,7 +32,8 @@ static const uint8_t house[TICKETMOSS_MESSAGE_BYTES] = {
 /* The last field of an answer line, before its LF: 1 where an order message is to be sent. */
 static int to_send(const uint8_t *answer, int64_t bytes) { return bytes > 1 && answer[bytes - 2] == '1'; }
 
-/* The message of an N that has passed. Here it is printed; a host sends it in an ESesM unsequenced data packet. */
+/* The message of an N that has passed. Here it is printed; a host sends it in an ESesM unsequenced data packet. With this house message and so
+ * much room it is not refused. */
 static void send_order(const uint8_t *line, size_t length) {
     uint8_t message[TICKETMOSS_MESSAGE_BYTES];
     if (ticketmoss_order_write(line, length, house, sizeof house, message, sizeof message) < 0) exit(1);

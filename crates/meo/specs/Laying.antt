@@ -22,7 +22,7 @@ use Rattle.fields.specs.declared.Written.the-variants.{Bytes}
 use Rattle.packing.specs.Words.{row}
 use Rattle.packing.specs.Fitting.{fits}
 use Rattle.fields.specs.Out.{Out, Left, left, out, puts, handed, begun}
-use Rattle.meo.specs.Table.{filled, Row, alphanumeric, string, binary, house, upon, lay, side-bits, instructions, Order, table}
+use Rattle.meo.specs.Table.{filled, Row, alphanumeric, binary, house, lay, side-bits, instructions, Order, table}
 use Rattle.meo.specs.Messages.{order-said, in-form, is-message, message, text-width}
 use Rattle.meo.specs.Parts.{stretch-before, drop-before, stretch-add, Fits, length-lay, lay-append, lay-house, next, begins-next}
 use Rattle.meo.specs.declared.NewOrder.{NewOrder}
@@ -75,9 +75,9 @@ message-type (x ∷ []) e = absurd (false≢true e)
 message-type (x ∷ y ∷ m) e = let w = both {a = eqb x 78} (both {a = eqb (length (x ∷ y ∷ m)) 131} e .1) in rw (eqb-true x 78 (w .0), eqb-true y 49 (w .1))
 
 -- ── the table in parts ──
--- the rows of N's fields
+-- the rows of N's fields, from MPID to Order Instructions
 abbrev pub own : Order → List Row
-own o = alphanumeric 4 (o .mpid) ∷ string 20 (o .name) ∷ binary 4 (o .symbol) ∷ binary 8 (o .price) ∷ binary 4 (o .size) ∷ upon 2 (instructions (o .side)) ∷ []
+own o = take 6 (drop 2 (table o))
 
 abbrev front : List Row
 front = alphanumeric 2 (bytes "N1") ∷ house 8 ∷ []
