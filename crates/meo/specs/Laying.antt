@@ -29,11 +29,9 @@ use Rattle.meo.specs.declared.NewOrder.{NewOrder}
 
 -- ── an N in its forms ──
 pub record Formed (l : List ℕ) (n : NewOrder) : Type 0 where
-  pub name-least : 1 ≤ length (said l (n .name))
   pub name-most : length (said l (n .name)) ≤ 20
   pub name-takes : every (takes (identifier unnamed)) (said l (n .name)) ≡ true
   pub mpid-four : length (said l (n .mpid)) ≡ 4
-  pub mpid-takes : every (takes (mpid unlisted)) (said l (n .mpid)) ≡ true
   pub symbol-in : (1 ≤ n .symbol) × (n .symbol ≤ 4_294_967_295)
   pub side-in : takes (letter (bytes "BSHE") (n .side)) (n .side) ≡ true
   pub size-in : (1 ≤ n .size) × (n .size ≤ 1_000_000)
@@ -46,11 +44,9 @@ formed l n e =
     let i = text-has 1 20 (takes (identifier unnamed)) unnamed (said l (n .name)) (w .0) in
     let m = text-has 4 4 (takes (mpid unlisted)) _ (said l (n .mpid)) (w .1 .0) in
     record {
-      name-least = i .0;
       name-most = i .1;
       name-takes = i .2;
       mpid-four = omega (arith, m .0, m .1);
-      mpid-takes = m .2;
       symbol-in = in-range _ _ _ (w .1 .1 .0);
       side-in = w .1 .1 .1 .0;
       size-in = in-range _ _ _ (w .1 .1 .1 .1 .0);
@@ -68,7 +64,7 @@ pub message-long : (m : List ℕ) → is-message m ≡ true → length m ≡ 131
 unfolding is-message
 message-long m e = eqb-true (length m) 131 (both e .0)
 
-pub message-type : (m : List ℕ) → is-message m ≡ true → stretch m 0 2 ≡ bytes "N1"
+message-type : (m : List ℕ) → is-message m ≡ true → stretch m 0 2 ≡ bytes "N1"
 unfolding is-message stretch
 message-type [] e = absurd (false≢true e)
 message-type (x ∷ []) e = absurd (false≢true e)
@@ -85,7 +81,7 @@ front = alphanumeric 2 (bytes "N1") ∷ house 8 ∷ []
 abbrev middle : List ℕ
 middle = 1 ∷ 1 ∷ 1 ∷ 1 ∷ 1 ∷ 1 ∷ 8 ∷ 1 ∷ 16 ∷ 4 ∷ []
 
-abbrev pub fixed : List Row
+abbrev fixed : List Row
 fixed = binary 4 0 ∷ binary 4 0 ∷ binary 4 0 ∷ binary 8 0 ∷ []
 
 abbrev end : List Row

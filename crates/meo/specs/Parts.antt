@@ -4,7 +4,7 @@ use mathlib.Core.List.{List, [], _∷_, _++_, map, append-assoc}
 use Prim.Native.Nat.{ℕ, zero, suc, _+_, _-_, _*_, _/_, _%_, _^_, _≤_, _<_}
 use native.Mathlib.Omega.{arith}
 use native.Mathlib.Nat.{add-zero, zero-add, suc-add, pow-succ'}
-use lib.ListN.{length, take, drop, length-take, length-drop, length-append, length-replicate, take-append-drop}
+use lib.ListN.{length, take, drop, length-take, length-drop, length-append, length-replicate}
 use lib.Seq.{take-all, take-nil, drop-drop, take-append-add, drop-append-add, take-append-seam, drop-append-seam, length-take-le, take-append-le, drop-append-le}
 use Rattle.laws.specs.Tables.{All, all-parts, sum, sum-append}
 use Rattle.rulebook.specs.Names.{word}
@@ -23,11 +23,6 @@ stretch-whole m a b n h = take-all n (take (b - a) (drop a m)) (rw length-take (
 pub length-stretch : (m : List ℕ) (a b : ℕ) → a ≤ b → b ≤ length m → length (stretch m a b) ≡ b - a
 unfolding stretch
 length-stretch m a b h k = length-take-le (b - a) (drop a m) (omega (arith, length-drop a m))
-
--- what follows a stretch
-pub stretch-then : (m : List ℕ) (a b : ℕ) → a ≤ b → stretch m a b ++ drop b m ≡ drop a m
-unfolding stretch
-stretch-then m a b h = let e : a + (b - a) ≡ b = omega arith in rw (← e) (rw (← drop-drop (b - a) a m, e) (take-append-drop (b - a) (drop a m)))
 
 take-more : (u v : ℕ) (m : List ℕ) → take u m ++ take v (drop u m) ≡ take (u + v) m
 take-more zero v m = rw zero-add
@@ -76,7 +71,7 @@ length-row (suc w) n = ap suc (length-row w (n / 256))
 length-filled : (pad w : ℕ) (cs : List ℕ) → length cs ≤ w → length (filled pad w cs) ≡ w
 length-filled pad w cs h = rw (length-append, length-replicate) (omega arith)
 
-pub length-cell : (h : List ℕ) (at : ℕ) (r : Row) → Fits r → at + width r ≤ length h → length (cell h at r) ≡ width r
+length-cell : (h : List ℕ) (at : ℕ) (r : Row) → Fits r → at + width r ≤ length h → length (cell h at r) ≡ width r
 length-cell h at (string w cs) f k = length-filled 0 w cs f
 length-cell h at (alphanumeric w cs) f k = length-filled 32 w cs f
 length-cell h at (binary w n) f k = length-row w n
@@ -137,14 +132,14 @@ word-row (suc k) n h = let p = pow-succ' 256 k in omega (arith, word-row k (n / 
 
 -- ── laid over ──
 -- bytes over those that stand at a place
-abbrev pub over : List ℕ → ℕ → List ℕ → List ℕ
+abbrev over : List ℕ → ℕ → List ℕ → List ℕ
 over d at cs = take at d ++ (cs ++ drop (at + length cs) d)
 
-pub puts-over : (d e : List ℕ) (at k : ℕ) (cs : List ℕ) → out e k ≡ puts (out d at) cs → at + length cs ≤ length d → e ≡ over d at cs
+puts-over : (d e : List ℕ) (at k : ℕ) (cs : List ℕ) → out e k ≡ puts (out d at) cs → at + length cs ≤ length d → e ≡ over d at cs
 puts-over d e at k cs q h = ap (λ (o : Out). o .buffer) (q ∙ puts-room cs d at h)
 
 -- over a list whose first bytes are replaced already
-pub over-next : (x d cs : List ℕ) (at : ℕ) → length x ≤ at → over (x ++ drop (length x) d) at cs ≡ (x ++ (stretch d (length x) at ++ cs)) ++ drop (at + length cs) d
+over-next : (x d cs : List ℕ) (at : ℕ) → length x ≤ at → over (x ++ drop (length x) d) at cs ≡ (x ++ (stretch d (length x) at ++ cs)) ++ drop (at + length cs) d
 unfolding stretch
 over-next x d cs at h =
     let p : length x + (at - length x) ≡ at = omega arith in
