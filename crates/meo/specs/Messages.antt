@@ -1,8 +1,9 @@
 -- Document 02, order 2: an N written as the exchange's New Order Request, and read back. Refusals "41 .., 42 .., 43 .., in that order, nothing written".
+use mathlib.Core.Path.{_≡_}
 use mathlib.Core.Bool.{Bool, not, _&&_, cond}
 use mathlib.Core.Option.{Option, none, some}
 use mathlib.Core.List.{List, [], _∷_}
-use Prim.Native.Nat.{ℕ, suc, _+_, _%_}
+use Prim.Native.Nat.{ℕ, suc, _+_, _%_, _<_}
 use Prim.Native.Char.{code}
 use lib.Dec.{ltb, eqb}
 use lib.ListN.{length, getD}
@@ -17,7 +18,7 @@ use Rattle.packing.specs.Fitting.{fits}
 use Rattle.codec.specs.Readings.{nowhere}
 use Rattle.codec.specs.declared.Reading.{Reading}
 use Rattle.codec.specs.declared.Reading.the-variants.{Broken, Group, Symbol, Open, New, Change, Cancel, Block, Unblock, Quote, Fill, Reduction, CancelRefused}
-use Rattle.meo.specs.Table.{side-bits, Order, table, lay}
+use Rattle.meo.specs.Table.{Row, string, alphanumeric, binary, house, upon, lay, side-bits, Order, table}
 use Rattle.meo.specs.declared.NewOrder.{NewOrder}
 use Rattle.meo.specs.declared.Sent.{Sent}
 use Rattle.meo.specs.declared.Found.{Found}
@@ -146,3 +147,17 @@ found-said Found.BadOrder = record { number = 42; order = none }
 
 unfoldable pub read-said : List ℕ → Heard
 read-said m = let k = first (read-checks m) in record { number = k; order = cond (eqb k 0) (some (order-at m)) none }
+
+-- ── "if its other fields hold the house values" ──
+-- from this byte on, in each row that is the house message's; and where a row is made from its number, the same is made
+abbrev pub Holds : List ℕ → List ℕ → ℕ → List Row → Type 0
+Holds m h at [] = Unit {0}
+Holds m h at (string w cs ∷ rs) = Holds m h (at + w) rs
+Holds m h at (alphanumeric w cs ∷ rs) = Holds m h (at + w) rs
+Holds m h at (binary w n ∷ rs) = Holds m h (at + w) rs
+Holds m h at (house w ∷ rs) = (stretch m at (at + w) ≡ stretch h at (at + w)) × Holds m h (at + w) rs
+Holds m h at (upon w f ∷ rs) = (f (word (stretch m at (at + w))) ≡ f (word (stretch h at (at + w)))) × Holds m h (at + w) rs
+
+-- a byte
+abbrev pub Byte : ℕ → Type 0
+Byte c = c < 256

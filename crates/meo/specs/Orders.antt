@@ -25,10 +25,9 @@ use Rattle.codec.specs.Lines.{InForm, read-in-form}
 use Rattle.codec.specs.declared.Reading.{Reading}
 use Rattle.codec.specs.declared.Reading.the-variants.{Broken, Group, Symbol, Open, New, Change, Cancel, Block, Unblock, Quote, Fill, Reduction, CancelRefused}
 use Rattle.meo.specs.Table.{Order, table}
-use Rattle.meo.specs.Messages.{no-order, order-of, reading-of, order-said, in-form, is-message, message, sent-said, write-checks, write-said, write-left, order-at, plain, read-checks, Heard, found-said, read-said}
-use Rattle.meo.specs.Parts.{Byte}
+use Rattle.meo.specs.Messages.{no-order, order-of, reading-of, order-said, in-form, is-message, message, sent-said, write-checks, write-said, write-left, order-at, plain, read-checks, Heard, found-said, read-said, Holds, Byte}
 use Rattle.meo.specs.Laying.{formed, message-long, message-length}
-use Rattle.meo.specs.Trips.{Holds, holds-lay, again, message-read, message-itself}
+use Rattle.meo.specs.Trips.{holds-lay, again, message-read, message-itself}
 use Rattle.meo.specs.declared.NewOrder.{NewOrder}
 use Rattle.meo.specs.declared.Sent.{Sent}
 use Rattle.meo.specs.declared.Found.{Found}

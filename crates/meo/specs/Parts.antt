@@ -12,6 +12,7 @@ use Rattle.fields.specs.Parts.{stretch}
 use Rattle.fields.specs.Out.{Out, out, puts}
 use Rattle.fields.specs.Puts.{puts-room}
 use Rattle.packing.specs.Words.{row}
+use Rattle.meo.specs.Messages.{Byte}
 use Rattle.meo.specs.Table.{filled, Row, string, alphanumeric, binary, house, upon, width, cell, lay}
 
 -- ── stretches ──
@@ -113,10 +114,6 @@ lay-rows h rs ss ts a k =
     rw (e, l, p) (ap (λ (k : ℕ). take k (y ++ z)) (sym m) ∙ take-append-seam y z)
 
 -- ── numbers ──
--- a byte
-abbrev pub Byte : ℕ → Type 0
-Byte c = c < 256
-
 pub row-word : (cs : List ℕ) → All Byte cs → row (length cs) (word cs) ≡ cs
 unfolding row word
 row-word [] a = refl

@@ -20,23 +20,14 @@ use Rattle.fields.specs.Packing.{Solid, all-take, all-drop}
 use Rattle.fields.specs.Values.{every-all, says-side, identifier-solid}
 use Rattle.packing.specs.Words.{row}
 use Rattle.meo.specs.Table.{filled, Row, string, alphanumeric, binary, house, upon, cell, lay, side-bits, instructions, Order, table}
-use Rattle.meo.specs.Messages.{order-said, in-form, is-message, message, text-width, letter-or, side-with, order-at, zeros, plain, found-said, read-said}
-use Rattle.meo.specs.Parts.{stretch-add, length-stretch, Byte, row-word, word-row, widths, Fits, lay-house, lay-rows}
+use Rattle.meo.specs.Messages.{order-said, in-form, is-message, message, text-width, letter-or, side-with, order-at, zeros, plain, found-said, read-said, Holds, Byte}
+use Rattle.meo.specs.Parts.{stretch-add, length-stretch, row-word, word-row, widths, Fits, lay-house, lay-rows}
 use Rattle.meo.specs.Laying.{formed, message-long, table-fits, message-length, text-width-most, own, bits-small, zero-rows, in-parts}
 use Rattle.meo.specs.declared.NewOrder.{NewOrder}
 use Rattle.meo.specs.declared.Found.{Found}
 
 -- ── the house values ──
--- a message has them: in each row that is the house message's, and where a row is made from its number the same is made
-abbrev pub Holds : List ℕ → List ℕ → ℕ → List Row → Type 0
-Holds m h at [] = Unit {0}
-Holds m h at (string w cs ∷ rs) = Holds m h (at + w) rs
-Holds m h at (alphanumeric w cs ∷ rs) = Holds m h (at + w) rs
-Holds m h at (binary w n ∷ rs) = Holds m h (at + w) rs
-Holds m h at (house w ∷ rs) = (stretch m at (at + w) ≡ stretch h at (at + w)) × Holds m h (at + w) rs
-Holds m h at (upon w f ∷ rs) = (f (word (stretch m at (at + w))) ≡ f (word (stretch h at (at + w)))) × Holds m h (at + w) rs
-
--- so its rows over either are the same
+-- a message that holds them has the same rows over either
 pub holds-lay : (m h : List ℕ) (at : ℕ) (rs : List Row) → Holds m h at rs → lay h at rs ≡ lay m at rs
 unfolding lay
 holds-lay m h at [] k = refl
@@ -103,7 +94,7 @@ side-back b = by (eqb b 0) buy _ (λ e. sym (eqb-true b 0 e)) (by (eqb b 3) sell
   where
     by : (t : Bool) (x : Side) (o : Option Side) → (t ≡ true → side-bits (side-of (side-letter x)) ≡ b) → (takes (blank (side buy)) (letter-or o) ≡ true → side-bits (side-of (letter-or o)) ≡ b)
         → takes (blank (side buy)) (letter-or (cond t (some x) o)) ≡ true → side-bits (side-of (letter-or (cond t (some x) o))) ≡ b
-    by t x o p q = on (λ t. t ≡ t → takes (blank (side buy)) (letter-or (cond t (some x) o)) ≡ true → side-bits (side-of (letter-or (cond t (some x) o))) ≡ b) t (λ e z h. p e) (λ e z h. q h) refl
+    by t x o p q = on (λ t. takes (blank (side buy)) (letter-or (cond t (some x) o)) ≡ true → side-bits (side-of (letter-or (cond t (some x) o))) ≡ b) t (λ e h. p e) (λ e h. q h)
 
 -- ── a message that was written ──
 -- the N of it, with its places there
