@@ -3,12 +3,12 @@ use mathlib.Core.Path.{_≡_, refl, sym, ap, _∙_, subst}
 use mathlib.Core.Bool.{true, false, cond}
 use mathlib.Core.Option.{Option, none, some}
 use mathlib.Core.Logic.{_↔_}
-use mathlib.Core.List.{List, _++_}
+use mathlib.Core.List.{List}
 use Prim.Native.Nat.{ℕ, _≤_}
 use Prim.Native.Char.{code}
 use native.Mathlib.Omega.{arith}
 use lib.ListN.{length, take, drop, getD}
-use lib.Seq.{take-append-seam}
+use lib.Seq.{take-at}
 use lib.Dec.{ltb, eqb}
 use borrow.Author.Tests.{not-false, ltb-true, ltb-false, le-ltb, eqb-true}
 use Rattle.laws.specs.Tests.{on, is-none}
@@ -77,7 +77,7 @@ sent-are : (l : List ℕ) (n : NewOrder) (h b : List ℕ) → Written l n h b �
 sent-are l n h b w =
     let m = message h (order-said l n) in
     let k = message-length l n h (w .formed) (message-long h (w .typed)) in
-    rw (passes l n h b w .1) (ap (λ (j : ℕ). take j (m ++ drop (length m) b)) (sym k) ∙ take-append-seam m (drop (length m) b))
+    rw (passes l n h b w .1) (take-at m (drop (length m) b) 131 k)
 
 -- THEOREM. The N is found again, and says what was written
 pub written-read : (l : List ℕ) (n : NewOrder) (h b : List ℕ) → write-said l n h b .number ≡ 0

@@ -3,9 +3,9 @@ use mathlib.Core.Path.{_≡_, refl, sym, ap, _∙_}
 use mathlib.Core.List.{List, [], _∷_, _++_, map, append-assoc}
 use Prim.Native.Nat.{ℕ, zero, suc, _+_, _-_, _*_, _/_, _%_, _^_, _≤_, _<_}
 use native.Mathlib.Omega.{arith}
-use native.Mathlib.Nat.{add-zero, zero-add, suc-add, pow-succ'}
+use native.Mathlib.Nat.{add-zero, zero-add, pow-succ'}
 use lib.ListN.{length, take, drop, length-take, length-drop, length-append, length-replicate}
-use lib.Seq.{take-all, take-nil, drop-drop, take-append-add, drop-append-add, take-append-seam, drop-append-seam, length-take-le, take-append-le, drop-append-le}
+use lib.Seq.{take-all, take-add, take-at, drop-at, drop-drop, take-append-add, drop-append-add, length-take-le, take-append-le, drop-append-le}
 use Rattle.laws.specs.Tables.{All, all-parts, sum, sum-append}
 use Rattle.rulebook.specs.Names.{word}
 use Rattle.fields.specs.Parts.{stretch}
@@ -25,11 +25,6 @@ pub length-stretch : (m : List ℕ) (a b : ℕ) → a ≤ b → b ≤ length m �
 unfolding stretch
 length-stretch m a b h k = length-take-le (b - a) (drop a m) (omega (arith, length-drop a m))
 
-take-more : (u v : ℕ) (m : List ℕ) → take u m ++ take v (drop u m) ≡ take (u + v) m
-take-more zero v m = rw zero-add
-take-more (suc u) v [] = rw (take-nil, suc-add)
-take-more (suc u) v (x ∷ xs) = rw suc-add (ap (λ (r : List ℕ). x ∷ r) (take-more u v xs))
-
 -- two stretches, the second from where the first ends
 pub stretch-add : (m : List ℕ) (a u v : ℕ) → stretch m a (a + u) ++ stretch m (a + u) (a + u + v) ≡ stretch m a (a + (u + v))
 unfolding stretch
@@ -37,7 +32,7 @@ stretch-add m a u v =
     let p : a + u - a ≡ u = omega arith in
     let q : a + u + v - (a + u) ≡ v = omega arith in
     let r : a + (u + v) - a ≡ u + v = omega arith in
-    rw (p, q, r, ← drop-drop u a m) (take-more u v (drop a m))
+    rw (p, q, r, ← drop-drop u a m) (sym (take-add u v (drop a m)))
 
 -- a stretch of what stands before other bytes, and what stands behind
 pub stretch-before : (m t : List ℕ) (a b : ℕ) → a ≤ b → b ≤ length m → stretch (m ++ t) a b ≡ stretch m a b
@@ -110,8 +105,7 @@ lay-rows h rs ss ts a k =
     let y = lay h (widths rs) ss in
     let z = lay h (widths rs + widths ss) ts in
     let l : lay h 0 (rs ++ (ss ++ ts)) ≡ x ++ (y ++ z) = lay-append h 0 rs (ss ++ ts) ∙ rw (zero-add (widths rs), lay-append h (widths rs) ss ts) in
-    let p = ap (λ (k : ℕ). drop k (x ++ (y ++ z))) (sym n) ∙ drop-append-seam x (y ++ z) in
-    rw (e, l, p) (ap (λ (k : ℕ). take k (y ++ z)) (sym m) ∙ take-append-seam y z)
+    rw (e, l, drop-at x (y ++ z) (widths rs) n) (take-at y z (widths ss) m)
 
 -- ── numbers ──
 pub row-word : (cs : List ℕ) → All Byte cs → row (length cs) (word cs) ≡ cs

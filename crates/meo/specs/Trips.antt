@@ -6,7 +6,7 @@ use mathlib.Core.List.{List, [], _∷_, _++_, append-nil}
 use Prim.Native.Nat.{ℕ, zero, suc, _+_, _-_, _%_, _≤_, _<_}
 use native.Mathlib.Omega.{arith}
 use lib.ListN.{length, take, drop, getD, replicate, take-append-drop}
-use lib.Seq.{drop-cons, take-all}
+use lib.Seq.{drop-cons, take-all, take-at, drop-at}
 use borrow.Author.Tests.{eqb-true, ne-eqb}
 use Rattle.laws.specs.Tests.{on, both}
 use lib.Dec.{eqb}
@@ -53,13 +53,10 @@ width-filled (c ∷ cs) k a = rw (ne-eqb c 0 (λ e. omega (arith, a .0)), width-
 
 -- two lists joined from parts of the same lengths have the same parts
 same-parts : (x y z w : List ℕ) → length x ≡ length z → x ++ y ≡ z ++ w → (x ≡ z) × (y ≡ w)
-same-parts [] y [] w e q = (refl, q)
-same-parts [] y (c ∷ z) w e q = absurd (omega arith)
-same-parts (c ∷ x) y [] w e q = absurd (omega arith)
-same-parts (c ∷ x) y (d ∷ z) w e q =
-    let r = same-parts x y z w (omega arith) (ap (λ (l : List ℕ). drop 1 l) q) in
-    let h : c ≡ d = ap (λ (l : List ℕ). getD l 0 0) q in
-    (rw (h, r .0), r .1)
+same-parts x y z w e q = (
+  sym (take-at x y (length x) refl) ∙ ap (λ (l : List ℕ). take (length x) l) q ∙ take-at z w (length x) (sym e),
+  sym (drop-at x y (length x) refl) ∙ ap (λ (l : List ℕ). drop (length x) l) q ∙ drop-at z w (length x) (sym e),
+)
 
 zeros-of : (k : ℕ) → zeros (replicate k 0) ≡ true
 unfolding zeros every
