@@ -1,16 +1,16 @@
 -- What a call says, told as one number: that it fits an i64, and that it is what the call below says.
 use mathlib.Core.Path.{_≡_, refl, sym, ap, _∙_, subst}
 use mathlib.Core.Bool.{Bool, true, false, cond}
-use mathlib.Core.List.{List, [], _∷_, _++_}
+use mathlib.Core.List.{List}
 use Prim.Native.Nat.{ℕ, zero, suc, _+_, _*_, _≤_, _<_, _^_}
 use native.Mathlib.Omega.{arith}
 use native.Mathlib.Decide.{decLt}
 use lib.IntN.{pos, negsuc}
 use lib.ListN.{length}
 use lib.Dec.{ltb, eqb}
-use borrow.Author.Tests.{lt-ltb, le-ltb, ltb-true, ne-eqb}
-use Rattle.laws.specs.Tests.{on, opt, both, split}
-use Rattle.laws.specs.Checks.{Check, _⇒_, first, each}
+use borrow.Author.Tests.{lt-ltb, le-ltb, ne-eqb}
+use Rattle.laws.specs.Tests.{on, opt, split}
+use Rattle.laws.specs.Checks.{first, first-then}
 use Rattle.books.specs.Layout.{least-words, place-words, room-for}
 use Rattle.rules.specs.Testing.{state-ok}
 use Rattle.fields.specs.Out.{Said, refuses, begun}
@@ -106,14 +106,6 @@ order-write-heard l n h b = let k = first (write-checks l n h b) in split (λ (x
 pub order-read-heard : (m b : List ℕ) → heard (told (read-told m b)) ≡ read-told m b
 unfolding read-told
 order-read-heard m b = let k = first (read-refusals m b) in split (λ (x : Said). heard (told x) ≡ x) (eqb k 0) (record { number = 0; bytes = 8 }) (refuses k) (λ e. refl) (λ e. refused-heard k)
-
--- one check more at the end of a chain
-first-then : (l : List Check) (t : Bool) (n : ℕ) → each (λ k. ltb 0 k) l ≡ true → first (l ++ ((t ⇒ n) ∷ [])) ≡ cond (eqb (first l) 0) (cond t n 0) (first l)
-unfolding first
-first-then [] t n e = refl
-first-then ((u ⇒ k) ∷ l) t n e =
-    let w = both {a = ltb 0 k} e in
-    on (λ u. cond u k (first (l ++ ((t ⇒ n) ∷ []))) ≡ cond (eqb (cond u k (first l)) 0) (cond t n 0) (cond u k (first l))) u (λ z. rw (ne-eqb k 0 (λ q. omega (arith, ltb-true 0 k (w .0), q)))) (λ z. first-then l t n (w .1))
 
 refusal : (m b : List ℕ) → first (read-refusals m b) ≡ cond (eqb (read-said m .number) 0) (cond (ltb (length b) 8) 43 0) (read-said m .number)
 unfolding read-said

@@ -1,12 +1,12 @@
 -- Chains of checks: tests with numbers, of which the first that holds gives its own.
 use mathlib.Core.Path.{_≡_, refl, sym, _∙_}
 use mathlib.Core.Bool.{Bool, true, false, not, _&&_, cond, and-eq-true-iff}
-use mathlib.Core.List.{List, [], _∷_}
+use mathlib.Core.List.{List, [], _∷_, _++_}
 use Prim.Native.Nat.{ℕ, _≤_, _<_}
 use native.Mathlib.Omega.{arith}
-use lib.Dec.{leb, ltb}
-use borrow.Author.Tests.{not-true, not-false, le-leb, lt-leb, lt-ltb, le-ltb}
-use Rattle.laws.specs.Tests.{on}
+use lib.Dec.{leb, ltb, eqb}
+use borrow.Author.Tests.{not-true, not-false, le-leb, lt-leb, lt-ltb, le-ltb, ltb-true, ne-eqb}
+use Rattle.laws.specs.Tests.{on, both}
 use Rattle.laws.specs.Tables.{All}
 
 pub data Check : Type 0 where
@@ -39,6 +39,18 @@ first-cases P q [] e f g = g tt
 first-cases P q ((t ⇒ n) ∷ l) e f g =
     let h = and-eq-true-iff (q n) (each q l) .0 e in
     on (λ b. P (cond b n (first l))) t (λ z. f n (h .0)) (λ z. first-cases P q l (h .1) f (λ c. g (z, c)))
+
+-- where no number is given, every check is clear
+pub first-clear : (l : List Check) → each (λ n. ltb 0 n) l ≡ true → first l ≡ 0 → Clear l
+first-clear l e = first-cases (λ k. k ≡ 0 → Clear l) (λ n. ltb 0 n) l e (λ n p z. absurd (omega (arith, ltb-true 0 n p))) (λ c z. c)
+
+-- one check more at the end of a chain
+pub first-then : (l : List Check) (t : Bool) (n : ℕ) → each (λ k. ltb 0 k) l ≡ true → first (l ++ ((t ⇒ n) ∷ [])) ≡ cond (eqb (first l) 0) (cond t n 0) (first l)
+unfolding first
+first-then [] t n e = refl
+first-then ((u ⇒ k) ∷ l) t n e =
+    let w = both {a = ltb 0 k} e in
+    on (λ u. cond u k (first (l ++ ((t ⇒ n) ∷ []))) ≡ cond (eqb (cond u k (first l)) 0) (cond t n 0) (cond u k (first l))) u (λ z. rw (ne-eqb k 0 (λ q. omega (arith, ltb-true 0 k (w .0), q)))) (λ z. first-then l t n (w .1))
 
 -- ── rules: tests that must all hold ──
 unfoldable pub all-hold : List Bool → Bool

@@ -9,11 +9,11 @@ use Prim.Native.Char.{code}
 use native.Mathlib.Omega.{arith}
 use lib.ListN.{length, take, drop, getD}
 use lib.Seq.{take-at}
-use lib.Dec.{ltb, eqb}
-use borrow.Author.Tests.{not-false, ltb-true, ltb-false, le-ltb, eqb-true}
+use lib.Dec.{eqb}
+use borrow.Author.Tests.{not-false, ltb-false, le-ltb, eqb-true}
 use Rattle.laws.specs.Tests.{on, is-none}
 use Rattle.laws.specs.Tables.{find, All}
-use Rattle.laws.specs.Checks.{Check, first, each, Clear, first-cases, rules-met}
+use Rattle.laws.specs.Checks.{first, first-clear, rules-met}
 use Rattle.rulebook.specs.Names.{bytes, ident-of, mpid-of}
 use Rattle.rulebook.specs.Lines.{new, Record, ask, identifier, mpid}
 use Rattle.fields.specs.Parts.{said}
@@ -33,9 +33,6 @@ use Rattle.meo.specs.declared.Sent.{Sent}
 use Rattle.meo.specs.declared.Found.{Found}
 
 -- ── what a call that is not refused has tried ──
-first-clear : (l : List Check) → each (λ n. ltb 0 n) l ≡ true → first l ≡ 0 → Clear l
-first-clear l e = first-cases (λ k. k ≡ 0 → Clear l) (λ n. ltb 0 n) l e (λ n p z. absurd (omega (arith, ltb-true 0 n p))) (λ c z. c)
-
 said-none : (k : ℕ) (x : Said) → cond (eqb k 0) x (refuses k) .number ≡ 0 → k ≡ 0
 said-none k x = on (λ t. eqb k 0 ≡ t → cond t x (refuses k) .number ≡ 0 → k ≡ 0) (eqb k 0) (λ e q p. eqb-true k 0 q) (λ e q p. p) refl
 
