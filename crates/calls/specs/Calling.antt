@@ -20,6 +20,7 @@ use Rattle.calls.specs.declared.Answered.{Answered}
 use Rattle.calls.specs.declared.Closed.{Closed}
 
 -- ── what a call says ──
+-- that these bytes were written
 abbrev pub wrote : List ℕ → Said
 wrote cs = record { number = 0; bytes = length cs }
 

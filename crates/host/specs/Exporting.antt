@@ -1,4 +1,4 @@
--- How a host that is written in C or Rust is told what document 01's calls say: one number with its sign.
+-- How a host that is written in C or Rust is told what the calls say: one number with its sign.
 use mathlib.Core.Bool.{not, cond}
 use mathlib.Core.List.{List, [], _∷_, _++_}
 use Prim.Native.Nat.{ℕ, suc, _+_, _*_}

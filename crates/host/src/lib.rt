@@ -1,6 +1,6 @@
 // The public calls for hosts in C and Rust: numbers and slices alone. include/ticketmoss.h declares them.
 //
-// Each is the call below it, and says its answer as one number with its sign: the bytes that were written, or minus document 01's number.
+// Each is the call below it, and says its answer as one number with its sign: the bytes or words that were written, or minus the documents' number.
 ghost use mathlib.Core.Path.{_≡_};
 ghost use Prim.Native.Nat.{_≤_};
 ghost use lib.ListN.{length};

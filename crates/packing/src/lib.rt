@@ -1,4 +1,4 @@
-// Identifiers, targets and MPIDs packed into words, and whether words, letters and numbers have document 01's forms.
+// Identifiers, targets, MPIDs and a message's numbers packed into words, and whether words, letters and numbers have document 01's forms.
 ghost use mathlib.Core.Path.{_≡_};
 ghost use Prim.Native.Nat.{_+_, _≤_, _<_};
 ghost use lib.ListN.{length, take, drop};
