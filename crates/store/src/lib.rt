@@ -105,20 +105,22 @@ pub fn key_at(mem: &[u64], i: usize) -> Key
     }
 }
 
-// Whether two keys are the same.
-fn same_key(a: Key, b: Key) -> bool
-    ensures { λ r. ⌜ r ≡ same-key (named-by a) (named-by b) ⌝ }
+// Whether a place has the key: its words are compared where they stand.
+fn has_key(mem: &[u64], i: usize, key: Key) -> bool
+    requires { ⌜ HasKeys (now mem) (i + 1) ⌝ }
+    ensures { λ r. ⌜ r ≡ same-key (named-by key) (key-at (rows-of (now (mem .entry))) i) ⌝ }
 {
-    if a.owner != b.owner {
+    let b = books::KEYS + i * books::KEY_WORDS;
+    if key.owner != mem[b + books::OWNER] {
         return false;
     }
-    if a.name.head != b.name.head {
+    if key.name.head != mem[b + books::NAME] {
         return false;
     }
-    if a.name.middle != b.name.middle {
+    if key.name.middle != mem[b + books::NAME_MIDDLE] {
         return false;
     }
-    a.name.tail == b.name.tail
+    key.name.tail == mem[b + books::NAME_TAIL]
 }
 
 // The place with the key, or the first free one, or that the table is full.
@@ -136,7 +138,7 @@ pub fn find_place(mem: &[u64], key: Key) -> Found
             }
             break Found::Full;
         }
-        if same_key(key, key_at(mem, place)) {
+        if has_key(mem, place, key) {
             break Found::At(place);
         }
         place += 1;

@@ -1,7 +1,7 @@
 -- `store::find_place` meets its contract: no place before has the key; each break is one of the three answers.
 use Rattle.store.proofs.find_place.Statement.{statement}
 use borrow.Author.Needs.{needs}
-use mathlib.Core.Path.{_≡_, sym, _∙_, ap}
+use mathlib.Core.Path.{_≡_, sym, _∙_}
 use mathlib.Core.Bool.{false}
 use Prim.Native.Nat.{ℕ, _≤_, _<_, _-_}
 use native.Mathlib.Omega.{arith}
@@ -26,11 +26,8 @@ room-requires c κs = search needs
 loop-holds : tie.Need-loop-holds Inv-loop μ-loop
 loop-holds c = (search needs, λ k lt. absurd (omega arith))
 
-key-at-requires : tie.Need-key-at-requires Inv-loop μ-loop
-key-at-requires c κs = search needs
-
-same-key-requires : tie.Need-same-key-requires Inv-loop μ-loop
-same-key-requires c κs = search needs
+has-key-requires : tie.Need-has-key-requires Inv-loop μ-loop
+has-key-requires c κs = search needs
 
 add-place : tie.Need-add-place Inv-loop μ-loop
 add-place c = search needs
@@ -39,7 +36,7 @@ loop-less : tie.Need-loop-less Inv-loop μ-loop
 loop-less c = search needs
 
 loop-again : tie.Need-loop-again Inv-loop μ-loop
-loop-again c = (search needs, below-more _ _ (c .before .before .before .before .loop .inv .1) (sym (ap (same-key (named-by (c .before .before .before .before .before .before .before .before .args .key))) (c .before .before .key-at .ensures)) ∙ sym (c .before .same-key .ensures) ∙ c .if3 .left))
+loop-again c = (search needs, below-more _ _ (c .before .before .before .loop .inv .1) (sym (c .before .has-key .ensures) ∙ c .if3 .left))
 
 returns : tie.Need-returns Inv-loop μ-loop
 returns c = found-free _ _ _ _ (c .before .before .loop .inv .1) (omega arith) (omega (arith, c .before .before .before .room .ensures, c .if2 .taken))
@@ -48,7 +45,7 @@ returns-2 : tie.Need-returns-2 Inv-loop μ-loop
 returns-2 c = found-full _ _ _ _ (c .before .before .loop .inv .1) (omega arith) (omega (arith, c .before .before .before .room .ensures, c .if2 .left))
 
 returns-3 : tie.Need-returns-3 Inv-loop μ-loop
-returns-3 c = found-at _ _ _ _ (c .before .before .before .before .loop .inv .1) (c .before .before .before .if1 .left) (sym (ap (same-key (named-by (c .before .before .before .before .before .before .before .before .args .key))) (c .before .before .key-at .ensures)) ∙ sym (c .before .same-key .ensures) ∙ c .if3 .taken)
+returns-3 c = found-at _ _ _ _ (c .before .before .before .loop .inv .1) (c .before .before .if1 .left) (sym (c .before .has-key .ensures) ∙ c .if3 .taken)
 
 pub find-place-spec : {M : Type 1} → statement M
 find-place-spec =
@@ -59,8 +56,7 @@ find-place-spec =
     shared-slice-read-n
     room-requires
     loop-holds
-    key-at-requires
-    same-key-requires
+    has-key-requires
     add-place
     loop-less
     loop-again
