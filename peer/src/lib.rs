@@ -8,6 +8,7 @@
 //! - [`gate`]: the judging of one day, kept in its own structures.
 //! - [`memory`]: the same day kept in lent words, with the state rules.
 //! - [`message`]: an order as the exchange's own message, written and read.
+//! - [`loads`]: the days and the states that are timed.
 
 #![forbid(unsafe_code)]
 #![warn(missing_docs)]
@@ -17,6 +18,7 @@ mod checks;
 pub mod days;
 pub mod gate;
 pub mod line;
+pub mod loads;
 pub mod memory;
 pub mod message;
 mod table;

@@ -3,11 +3,8 @@
 //! Both are called record by record in this process, over lines that are already in memory and with one answer buffer that is not cleared between
 //! records. They take turns, and of several turns each one's best counts. What both answer is compared once, before anything is timed.
 
-use peer::days::rng::Rng;
-use peer::days::CEILING;
-use peer::gate::Gate;
+use peer::loads::{self, order, traded};
 use peer::{memory, message};
-use std::fmt::Write as _;
 use std::hint::black_box;
 use std::process::{Command, Stdio};
 use std::time::Instant;
@@ -15,85 +12,7 @@ use std::time::Instant;
 #[path = "../../../include/ticketmoss.rs"]
 mod ticketmoss;
 
-const GROUPS: usize = 8;
-const SYMBOLS: u64 = 64;
 const TURNS: usize = 5;
-
-fn mpid(group: u64) -> String {
-    format!("DSK{}", (b'A' + group as u8) as char)
-}
-
-/// The lines of setup: groups that no limit stops, symbols, the opening, and a quote of 10.00 for each symbol.
-fn setup() -> Vec<String> {
-    let mut lines = Vec::new();
-    for group in 0..GROUPS as u64 {
-        let mut line = format!("G\t{}", mpid(group));
-        for _ in 0..6 {
-            let _ = write!(line, "\t{CEILING}");
-        }
-        lines.push(line + "\t1000000\tY\n");
-    }
-    lines.extend((1..=SYMBOLS).map(|symbol| format!("S\t{symbol}\n")));
-    lines.push("O\n".into());
-    lines.extend((1..=SYMBOLS).map(|n| format!("Q\t{n}\t{n}\t9990000\t10000000\n")));
-    lines
-}
-
-/// The N of an order, told by its number.
-fn order(number: u64) -> String {
-    let side = if number.is_multiple_of(2) { 'B' } else { 'S' };
-    format!(
-        "N\tORDER-{number:07}\t{}\t{}\t{side}\t1000000\t10000000\n",
-        mpid(number % GROUPS as u64),
-        1 + number % SYMBOLS
-    )
-}
-
-/// The lines of trading, over orders that are numbered from 0: of twenty, five orders (a retry, or 7, once the table is full), five retries, five
-/// fills, two reductions, two quotes and one line that breaks a form.
-fn trading(
-    draw: &mut Rng,
-    lines: usize,
-    mut orders: u64,
-    places: u64,
-    mut notice: u64,
-) -> Vec<String> {
-    let mut day = Vec::with_capacity(lines);
-    for _ in 0..lines {
-        let some = draw.below(orders.clamp(1, places));
-        let desk = mpid(some % GROUPS as u64);
-        let mut number = || {
-            notice += 1;
-            notice
-        };
-        day.push(match draw.below(20) {
-            0..=4 => {
-                orders += 1;
-                order(orders - 1)
-            }
-            5..=9 => order(some),
-            10..=14 => format!("F\t{}\t{desk}\tORDER-{some:07}\t1\t9990000\n", number()),
-            15..=16 => format!("D\t{}\t{desk}\tORDER-{some:07}\t1\n", number()),
-            17..=18 => format!("Q\t{}\t{}\t9990000\t10000000\n", number(), 1 + draw.below(SYMBOLS)),
-            _ => "N\tORDER\t\n".into(),
-        });
-    }
-    day
-}
-
-/// The words of a state with so many places, of which so many are taken.
-fn traded(places: usize, taken: u64) -> Vec<u64> {
-    let mut gate = Gate::new(places);
-    let mut answer = Vec::new();
-    for line in setup().into_iter().chain((0..taken).map(order)) {
-        answer.clear();
-        gate.record(line.as_bytes(), &mut answer);
-    }
-    let mut words = vec![0; ticketmoss::words(places)];
-    memory::store(&gate, &mut words);
-    assert_eq!(ticketmoss::state(&words), Ok(()), "a generated state is a good one");
-    words
-}
 
 /// Nanoseconds for each line, of each of the two on its own copy of a state; the best of several turns.
 fn timed(words: &[u64], lines: &[String], turns: usize) -> (f64, f64) {
@@ -152,10 +71,10 @@ fn checked(words: &[u64], turns: usize) -> f64 {
     let mut best = f64::MAX;
     for _ in 0..turns {
         let from = Instant::now();
-        for _ in 0..64 {
+        for _ in 0..16 {
             black_box(ticketmoss::state(black_box(words)).is_ok());
         }
-        best = best.min(from.elapsed().as_nanos() as f64 / 64.0);
+        best = best.min(from.elapsed().as_nanos() as f64 / 16.0);
     }
     best
 }
@@ -163,6 +82,7 @@ fn checked(words: &[u64], turns: usize) -> f64 {
 /// Where the time goes, by lines that go further and further through the gate, each less the one before.
 fn stages(name: &str, places: usize, taken: u64, turns: usize) {
     let words = traded(places, taken);
+    assert_eq!(ticketmoss::state(&words), Ok(()), "a generated state is a good one");
     let many = |line: String| vec![line; 64];
     let check = checked(&words, turns);
     // refused for its form at its last byte: read to its end, and answered by ten bytes
@@ -334,24 +254,16 @@ fn main() {
         eprintln!("usage: bench FOLDER PEER GATE..  (the script peer/bench runs it)");
         std::process::exit(2);
     };
-    let small: Vec<String> = setup()
-        .into_iter()
-        .chain(trading(&mut Rng::new(1, 0, 0), 1_000 - setup().len(), 0, 400, SYMBOLS))
-        .collect();
-    let large: Vec<String> = setup()
-        .into_iter()
-        .chain(trading(&mut Rng::new(2, 0, 0), 300_000 - setup().len(), 0, 400, SYMBOLS))
-        .collect();
+    let (small, large) = (loads::small(), loads::large());
 
     println!("Calls, records a second:\n");
     println!("| day | lines | gate | peer | times as long |\n|---|---|---|---|---|");
-    let mut fresh = vec![0; ticketmoss::words(400)];
+    let mut fresh = vec![0; ticketmoss::words(loads::ROOM)];
     ticketmoss::fresh(&mut fresh).expect("words enough");
     day_row("small, 400 places", &fresh, &small, 20 * TURNS);
     day_row("large, 400 places", &fresh, &large, TURNS);
-    let over = trading(&mut Rng::new(3, 0, 0), 2_000, 65_535, 65_535, SYMBOLS);
-    let full = traded(65_535, 65_535);
-    day_row("full table, 65,535 places", &full, &over, 2);
+    let full = traded(loads::GREATEST, loads::GREATEST as u64);
+    day_row("full table, 65,535 places", &full, &loads::over(), 2);
 
     println!("\nPrograms, records a second:\n");
     println!("| day | lines | gate | peer | times as long |\n|---|---|---|---|---|");
@@ -364,13 +276,14 @@ fn main() {
         "| table | who | state check | reading | writing | search | judging and storing | all |"
     );
     println!("|---|---|---|---|---|---|---|---|");
-    stages("1 of 400 places taken", 400, 1, 400);
-    stages("336 of 400 places taken", 400, 336, 400);
-    let retried = timed(&full, &vec![order(65_534); 64], 5).0;
+    stages("1 of 400 places taken", loads::ROOM, 1, 400);
+    stages("336 of 400 places taken", loads::ROOM, 336, 400);
+    let retry = |number: u64| timed(&full, &vec![order(number); 16], 60).0 / 1000.0;
+    let last = retry(loads::GREATEST as u64 - 1);
     println!(
-        "\nAt 65,535 places taken the state check is {:.0} of the {:.0} microseconds of a retry.",
-        checked(&full, 5) / 1000.0,
-        retried / 1000.0
+        "\nAt 65,535 places taken the state check is {:.0} of the {last:.0} microseconds of a retry of the last order, and the search {:.0}.",
+        checked(&full, 60) / 1000.0,
+        last - retry(0)
     );
 
     println!("\nOrder messages, nanoseconds a message:\n");
