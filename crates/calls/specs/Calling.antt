@@ -20,17 +20,20 @@ use Rattle.calls.specs.declared.Answered.{Answered}
 use Rattle.calls.specs.declared.Closed.{Closed}
 
 -- ── what a call says ──
--- that these bytes were written
+-- that so many bytes were written, and that these were
+abbrev pub bytes-said : ℕ → Said
+bytes-said n = record { number = 0; bytes = n }
+
 abbrev pub wrote : List ℕ → Said
-wrote cs = record { number = 0; bytes = length cs }
+wrote cs = bytes-said (length cs)
 
 abbrev pub answer-said : Answered → Said
-answer-said (Answered.Line n) = record { number = 0; bytes = n }
+answer-said (Answered.Line n) = bytes-said n
 answer-said Answered.ShortBuffer = refuses 21
 answer-said Answered.BadState = refuses 22
 
 abbrev pub closing-said : Closed → Said
-closing-said (Closed.Line n) = record { number = 0; bytes = n }
+closing-said (Closed.Line n) = bytes-said n
 closing-said Closed.ShortBuffer = refuses 21
 closing-said Closed.BadState = refuses 22
 closing-said Closed.Unlisted = refuses 5

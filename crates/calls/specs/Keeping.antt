@@ -28,7 +28,7 @@ use Rattle.books.specs.Kept.{kept}
 use Rattle.store.specs.Making.{made-words, fresh-valid}
 use Rattle.rules.specs.Testing.{state-ok}
 use Rattle.rules.specs.Meaning.{exactly}
-use Rattle.calls.specs.Calling.{wrote, said-by, verdict-on, answer-to, Recorded, record-left, recorded, group-at, closing-left, closing-of, closed}
+use Rattle.calls.specs.Calling.{refusals, wrote, said-by, verdict-on, answer-to, Recorded, record-left, recorded, group-at, closing-left, closing-of, closed}
 
 -- ── a line that has room is written whole ──
 abbrev pub count-of : Written → ℕ
@@ -51,21 +51,35 @@ module _ (most : ℕ) (cs b after : List ℕ) (w : Written) (e : left after w �
   pub has-room : w ≡ NoRoom → ⊥
   has-room q = let z : _≡_ {A = ℕ} 21 0 = ap room-number (sym q ∙ line-said) in omega arith
 
+-- ── 21, 22, or neither ──
+module _ (least : ℕ) (m b : List ℕ) where
+  pub too-short : length b < least → first (refusals least m b) ≡ 21
+  unfolding first
+  too-short h = rw (lt-ltb (length b) least h) refl
+
+  pub state-bad : least ≤ length b → state-ok m ≡ false → first (refusals least m b) ≡ 22
+  unfolding first
+  state-bad h e = rw (le-ltb (length b) least h, e) refl
+
+  pub not-refused : least ≤ length b → state-ok m ≡ true → first (refusals least m b) ≡ 0
+  unfolding first
+  not-refused h e = rw (le-ltb (length b) least h, e) refl
+
 -- ── one record ──
 module _ (m l b : List ℕ) where
   -- "21 to 23 are returned and write nothing"
   pub short-buffer : length b < 32 → recorded m l b ≡ record-left (refuses 21) m b
-  unfolding recorded first
-  short-buffer h = rw (lt-ltb (length b) 32 h) refl
+  unfolding recorded
+  short-buffer h = rw (too-short 32 m b h) refl
 
   pub bad-state : 32 ≤ length b → state-ok m ≡ false → recorded m l b ≡ record-left (refuses 22) m b
-  unfolding recorded first
-  bad-state h e = rw (le-ltb (length b) 32 h, e) refl
+  unfolding recorded
+  bad-state h e = rw (state-bad 32 m b h e) refl
 
   -- and else the record is judged
   pub judged-line : 32 ≤ length b → state-ok m ≡ true → recorded m l b ≡ record-left (wrote (answer-to m l)) (write (verdict-on m l .edit) m) (begun (answer-to m l) b)
-  unfolding recorded first
-  judged-line h e = rw (le-ltb (length b) 32 h, e) refl
+  unfolding recorded
+  judged-line h e = rw (not-refused 32 m b h e) refl
 
 -- THEOREM. A record leaves a state that meets the state rules, so 22 never follows from the gate's own work
 pub state-kept : (m l b : List ℕ) → state-ok m ≡ true → state-ok (recorded m l b .memory) ≡ true
@@ -90,21 +104,21 @@ answer-written m l e = gate-answer (view m) l (exactly m .0 e .sound)
 -- ── a closing line ──
 module _ (m : List ℕ) (i : ℕ) (b : List ℕ) where
   pub closing-short-buffer : length b < 96 → closed m i b ≡ closing-left (refuses 21) b
-  unfolding closed first
-  closing-short-buffer h = rw (lt-ltb (length b) 96 h) refl
+  unfolding closed
+  closing-short-buffer h = rw (too-short 96 m b h) refl
 
   pub closing-bad-state : 96 ≤ length b → state-ok m ≡ false → closed m i b ≡ closing-left (refuses 22) b
-  unfolding closed first
-  closing-bad-state h e = rw (le-ltb (length b) 96 h, e) refl
+  unfolding closed
+  closing-bad-state h e = rw (state-bad 96 m b h e) refl
 
   -- "then 5 if no group has that place, which here writes nothing"
   pub closing-unlisted : 96 ≤ length b → state-ok m ≡ true → group-at m i ≡ none → closed m i b ≡ closing-left (refuses 5) b
-  unfolding closed first Option·elim
-  closing-unlisted h e q = rw (le-ltb (length b) 96 h, e, q) refl
+  unfolding closed Option·elim
+  closing-unlisted h e q = rw (not-refused 96 m b h e, q) refl
 
   pub closing-line-of : (g : Group) → 96 ≤ length b → state-ok m ≡ true → group-at m i ≡ some g → closed m i b ≡ closing-left (wrote (closing-of m g)) (begun (closing-of m g) b)
-  unfolding closed first Option·elim
-  closing-line-of g h e q = rw (le-ltb (length b) 96 h, e, q) refl
+  unfolding closed Option·elim
+  closing-line-of g h e q = rw (not-refused 96 m b h e, q) refl
 
 -- THEOREM. What is written is the rulebook's closing line, and has at most 96 bytes
 pub closing-written : (m : List ℕ) (i : ℕ) (g : Group) → state-ok m ≡ true → group-at m i ≡ some g → IsLine (closing-line g (tally g (view m .ledger .orders))) (closing-of m g) × (length (closing-of m g) ≤ 96)

@@ -1,4 +1,6 @@
 pub mod Calling
+pub mod Blocks
 pub mod Keeping
+pub mod Taking
 pub mod Totals
 pub mod Recording

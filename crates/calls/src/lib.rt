@@ -1,10 +1,15 @@
 // The public calls. Each does its own checking, and is stated for every memory, every line and every buffer.
 ghost use mathlib.Core.Path.{_≡_};
+ghost use mathlib.Core.Bool.{true};
+ghost use mathlib.Core.List.{[]};
 ghost use Prim.Native.Nat.{_≤_};
 ghost use lib.ListN.{length};
 ghost use Rattle.answers.specs.Answering.{answer-bytes, closing-bytes};
 ghost use Rattle.fields.specs.Out.{begun};
-ghost use Rattle.calls.specs.Calling.{answer-said, closing-said, record-left, recorded, closing-left, closed};
+ghost use Rattle.rules.specs.Testing.{state-ok};
+ghost use Rattle.lines.specs.Splitting.{whole};
+ghost use Rattle.calls.specs.Calling.{bytes-said, answer-said, closing-said, record-left, recorded, closing-left, closed};
+ghost use Rattle.calls.specs.Blocks.{block-left, one-by-one, blocked};
 use codec::Reading;
 use fields::Written;
 use store::Closing;
@@ -21,6 +26,17 @@ pub enum Answered {
     BadState,
 }
 
+// What a block of lines is answered: how many lines were taken, their bytes, and the bytes of their answer lines; or 21, or 22.
+pub enum Taken {
+    Lines {
+        count: usize,
+        bytes: usize,
+        written: usize,
+    },
+    ShortBuffer,
+    BadState,
+}
+
 // What a closing line is answered: its bytes; or 21, or 22; or that no group has the place (5).
 pub enum Closed {
     Line(usize),
@@ -29,7 +45,7 @@ pub enum Closed {
     Unlisted,
 }
 
-// Writes an answer line, which has room.
+// Writes an answer line, which has room, and answers its bytes.
 fn put_answer(
     line: &[u8],
     rec: Reading,
@@ -37,15 +53,29 @@ fn put_answer(
     number: u64,
     sent: u64,
     to: &mut [u8],
-) -> Answered
+) -> usize
     requires { ⌜ (length (answer-bytes (now line) rec outcome number sent) ≤ 32) × (32 ≤ length (now to)) ⌝ }
-    ensures answer { λ r. ⌜ r ≡ Answered.Line (length (answer-bytes (now (line .entry)) rec outcome number sent)) ⌝ }
+    ensures answer { λ r. ⌜ r ≡ length (answer-bytes (now (line .entry)) rec outcome number sent) ⌝ }
     ensures buffer { λ _. ⌜ now (to .exit) ≡ begun (answer-bytes (now (line .entry)) rec outcome number sent) (now (to .entry)) ⌝ }
 {
     match answers::write_answer(line, rec, outcome, number, sent, to) {
-        Written::Bytes(count) => Answered::Line(count),
-        Written::NoRoom => Answered::ShortBuffer,
+        Written::Bytes(count) => count,
+        Written::NoRoom => 0,
     }
+}
+
+// Judges a line on words that meet every state rule, with a buffer that has room: what it changes is stored, and its answer line stands at the
+// buffer's start. Answers the line's bytes.
+fn judge_line(mem: &mut [u64], line: &[u8], to: &mut [u8]) -> usize
+    requires { ⌜ state-ok (now mem) ≡ true ⌝ }
+    requires { ⌜ 32 ≤ length (now to) ⌝ }
+    ensures { λ r. ⌜ record-left (bytes-said r) (now (mem .exit)) (now (to .exit)) ≡ recorded (now (mem .entry)) (now (line .entry)) (now (to .entry)) ⌝ }
+{
+    let rec = codec::read(line);
+    let verdict = judge::judge(mem, line, rec);
+    let edit = verdict.edit;
+    edits::write_edit(mem, edit);
+    put_answer(line, rec, verdict.outcome, verdict.number, verdict.sent, to)
 }
 
 // One record, lent as its line: 21 where the buffer has fewer than 32 bytes, 22 where the words break a state rule, and nothing is written.
@@ -59,11 +89,47 @@ pub fn record(mem: &mut [u64], line: &[u8], to: &mut [u8]) -> Answered
     if !state::state_ok(mem) {
         return Answered::BadState;
     }
-    let rec = codec::read(line);
-    let verdict = judge::judge(mem, line, rec);
-    let edit = verdict.edit;
-    edits::write_edit(mem, edit);
-    put_answer(line, rec, verdict.outcome, verdict.number, verdict.sent, to)
+    Answered::Line(judge_line(mem, line, to))
+}
+
+// The lines that end in a text, judged one after the other on words that meet every state rule, while 32 bytes are left for the next answer line.
+// Answers how many were taken, their bytes, and the bytes of their answer lines.
+fn judge_lines(mem: &mut [u64], text: &[u8], to: &mut [u8]) -> Taken
+    requires { ⌜ state-ok (now mem) ≡ true ⌝ }
+    ensures { λ r. ⌜ block-left r (now (mem .exit)) (now (to .exit)) ≡ one-by-one (now (mem .entry)) (whole [] (now (text .entry))) (now (to .entry)) ⌝ }
+{
+    let mut count = 0;
+    let mut at = 0;
+    let mut end = 0;
+    while to.len() - end >= ANSWER {
+        let line = lines::line_at(text, at);
+        if line.len() == 0 {
+            break;
+        }
+        end += judge_line(mem, line, &mut to[end..]);
+        at += line.len();
+        count += 1;
+    }
+    Taken::Lines {
+        count,
+        bytes: at,
+        written: end,
+    }
+}
+
+// A block of lines: 21 where the buffer has fewer than 32 bytes, 22 where the words break a state rule, and nothing is written. Else the lines
+// that end in the text are judged one after the other, as if each had been lent alone with what is left of the buffer. It stops before the first
+// line for which fewer than 32 bytes are left; a last part without LF is not taken.
+pub fn block(mem: &mut [u64], text: &[u8], to: &mut [u8]) -> Taken
+    ensures { λ r. ⌜ block-left r (now (mem .exit)) (now (to .exit)) ≡ blocked (now (mem .entry)) (now (text .entry)) (now (to .entry)) ⌝ }
+{
+    if to.len() < ANSWER {
+        return Taken::ShortBuffer;
+    }
+    if !state::state_ok(mem) {
+        return Taken::BadState;
+    }
+    judge_lines(mem, text, to)
 }
 
 // Writes a closing line, which has room.

@@ -1,9 +1,7 @@
 -- `calls::put_answer` meets its contract: a line that has room is written whole.
 use borrow.Author.Needs.{needs}
 use Rattle.calls.proofs.put_answer.Statement.{statement}
-use mathlib.Core.Path.{_≡_, refl, sym, ap, _∙_, subst}
 use Rattle.calls.specs.Keeping.{line-begun, line-count, has-room}
-use Rattle.calls.specs.declared.Answered.{Answered}
 use Rattle.calls.proofs.put_answer.Tie as tie
 
 write-answer-requires : tie.Need-write-answer-requires
@@ -19,7 +17,7 @@ same-length : tie.Need-same-length
 same-length c = search needs
 
 returns : tie.Need-returns
-returns c = (ap Answered.Line (line-count _ _ _ _ _ (c .before .before .before .before .before .write-answer .ensures) (c .before .before .before .before .before .before .before .before .before .pre) _ (c .before .count .given .1)), line-begun _ _ _ _ _ (c .before .before .before .before .before .write-answer .ensures) (c .before .before .before .before .before .before .before .before .before .pre))
+returns c = (line-count _ _ _ _ _ (c .before .before .before .before .before .write-answer .ensures) (c .before .before .before .before .before .before .before .before .before .pre) _ (c .before .count .given .1), line-begun _ _ _ _ _ (c .before .before .before .before .before .write-answer .ensures) (c .before .before .before .before .before .before .before .before .before .pre))
 
 same-length-2 : tie.Need-same-length-2
 same-length-2 c = search needs

@@ -1,0 +1,119 @@
+-- The lines of a block one after the other: one line more, and the end.
+use mathlib.Core.Path.{_≡_, refl, sym, ap, _∙_, subst}
+use mathlib.Core.Bool.{true, false}
+use mathlib.Core.List.{List, [], _∷_, _++_, append-assoc, append-nil}
+use Prim.Native.Nat.{ℕ, _+_, _-_, _≤_, _<_}
+use native.Mathlib.Nat.{zero-add}
+use native.Mathlib.Omega.{arith}
+use lib.ListN.{length, take, drop, length-append, length-drop, take-append-drop, drop-of-length-le}
+use lib.Seq.{length-take-le, take-all, take-append-add, drop-append-add}
+use borrow.Author.Tests.{lt-ltb, le-ltb}
+use Rattle.rules.specs.Testing.{state-ok}
+use Rattle.lines.specs.Splitting.{whole, line-at}
+use Rattle.lines.specs.Places.{step-on, step-none}
+use Rattle.calls.specs.Calling.{bytes-said, answer-to, Recorded, record-left, recorded}
+use Rattle.calls.specs.Keeping.{too-short, state-bad, not-refused, judged-line, state-kept, answer-written}
+use Rattle.calls.specs.Blocks.{Block, idle, before, one-by-one, blocked, block-left}
+use Rattle.calls.specs.declared.Taken.{Taken}
+
+-- lines taken before lines taken
+before-more : (k n : ℕ) (a : List ℕ) (j i : ℕ) (c : List ℕ) (t : Block) → before k n a (before j i c t) ≡ before (k + j) (n + i) (a ++ c) t
+before-more k n a j i c t =
+    let lines : k + (j + t .lines) ≡ k + j + t .lines = omega arith in
+    let bytes : n + (i + t .bytes) ≡ n + i + t .bytes = omega arith in
+    let written : length a + (length c + t .written) ≡ length (a ++ c) + t .written = rw length-append (omega arith) in
+    λ x. record { number = t .number; lines = lines x; bytes = bytes x; written = written x; memory = t .memory; buffer = sym (append-assoc a c (t .buffer)) x }
+
+-- a line that the record call answered, on a state that meets the rules
+module _ (m l b : List ℕ) (ok : state-ok m ≡ true) (room : 32 ≤ length b) {m' b' : List ℕ} {n : ℕ} (e : record-left (bytes-said n) m' b' ≡ recorded m l b) where
+  pub still-ok : state-ok m' ≡ true
+  still-ok = subst (λ (r : Recorded). state-ok (r .memory) ≡ true) (sym e) (state-kept m l b ok)
+
+  pub few-bytes : n ≤ 32
+  few-bytes = let q : n ≡ length (answer-to m l) = ap (λ (r : Recorded). r .said .bytes) (e ∙ judged-line m l b room ok) in omega (arith, q, answer-written m l ok .1)
+
+  line-taken : (ls : List (List ℕ)) → one-by-one m (l ∷ ls) b ≡ before 1 (length l) (take n b') (one-by-one m' ls (drop n b'))
+  unfolding one-by-one
+  line-taken ls = rw (le-ltb (length b) 32 room) (ap (λ (r : Recorded). before 1 (length l) (take (r .said .bytes) (r .buffer)) (one-by-one (r .memory) ls (drop (r .said .bytes) (r .buffer)))) (sym e))
+
+-- where under 32 bytes are left, no line is taken
+no-room : (m : List ℕ) (ls : List (List ℕ)) (b : List ℕ) → length b < 32 → one-by-one m ls b ≡ idle 0 m b
+unfolding one-by-one
+no-room m [] b h = refl
+no-room m (l ∷ ls) b h = rw (lt-ltb (length b) 32 h) refl
+
+no-line : (m b : List ℕ) → one-by-one m [] b ≡ idle 0 m b
+unfolding one-by-one
+no-line m b = refl
+
+-- ── what is left of the buffer, lent to one call ──
+-- the bytes from a place on
+abbrev pub tail : List ℕ → ℕ → List ℕ
+tail b end = take (length b - end) (drop end b)
+
+-- a buffer with other bytes from a place on
+abbrev pub with-tail : List ℕ → ℕ → List ℕ → List ℕ
+with-tail b end ys = take end b ++ (ys ++ drop (length b - end) (drop end b))
+
+pub tail-is : (b : List ℕ) (end : ℕ) → tail b end ≡ drop end b
+tail-is b end = take-all (length b - end) (drop end b) (rw length-drop (omega arith))
+
+pub tail-room : (b : List ℕ) (end : ℕ) → 32 ≤ length b - end → 32 ≤ length (tail b end)
+tail-room b end h = rw (tail-is b end, length-drop) h
+
+module _ (b : List ℕ) (end : ℕ) (within : end ≤ length b) (ys : List ℕ) where
+  rejoined : with-tail b end ys ≡ take end b ++ ys
+  rejoined = let none = drop-of-length-le (drop end b) {i = length b - end} (rw length-drop (omega arith)) in rw (none, append-nil)
+
+  pub front-then : (n : ℕ) → take (end + n) (with-tail b end ys) ≡ take end b ++ take n ys
+  front-then n = let z : end + n ≡ length (take end b) + n = rw (length-take-le end b within) refl in rw (rejoined, z) (take-append-add (take end b) ys n)
+
+  pub rest-then : (n : ℕ) → drop (end + n) (with-tail b end ys) ≡ drop n ys
+  rest-then n = let z : end + n ≡ length (take end b) + n = rw (length-take-le end b within) refl in rw (rejoined, z) (drop-append-add (take end b) ys n)
+
+-- ── the loop: so many lines are taken, with so many bytes, and their answers stand before a place ──
+abbrev pub so-far : List ℕ → ℕ → ℕ → ℕ → List ℕ → List ℕ → Block
+so-far text count at end m b = before count at (take end b) (one-by-one m (whole [] (drop at text)) (drop end b))
+
+pub at-start : (text m b : List ℕ) → one-by-one m (whole [] text) b ≡ so-far text 0 0 0 m b
+at-start text m b = let t = one-by-one m (whole [] text) b in λ x. record { number = t .number; lines = sym (zero-add (t .lines)) x; bytes = sym (zero-add (t .bytes)) x; written = sym (zero-add (t .written)) x; memory = t .memory; buffer = t .buffer }
+
+module _ (text : List ℕ) (count at end : ℕ) (m b : List ℕ) where
+  pub next-line : (l : List ℕ) → l ≡ line-at text at → 1 ≤ length l → state-ok m ≡ true → end ≤ length b → 32 ≤ length b - end → (k : List ℕ) (ys : List ℕ) (n : ℕ) → record-left (bytes-said n) k ys ≡ recorded m l (tail b end) →
+      so-far text count at end m b ≡ so-far text (count + 1) (at + length l) (end + n) k (with-tail b end ys)
+  next-line l q some ok within room k ys n e =
+      let s = step-on text at (subst (λ (l : List ℕ). 1 ≤ length l) q some) in
+      let lines : whole [] (drop at text) ≡ l ∷ whole [] (drop (at + length l) text) = s .line ∙ sym (λ x. q x ∷ whole [] (drop (at + length (q x)) text)) in
+      let here = e ∙ ap (recorded m l) (tail-is b end) in
+      ap (λ ls. before count at (take end b) (one-by-one m ls (drop end b))) lines
+      ∙ ap (before count at (take end b)) (line-taken m l (drop end b) ok (rw length-drop room) here (whole [] (drop (at + length l) text)))
+      ∙ before-more count at (take end b) 1 (length l) (take n ys) (one-by-one k (whole [] (drop (at + length l) text)) (drop n ys))
+      ∙ sym (λ x. before (count + 1) (at + length l) (front-then b end within ys n x) (one-by-one k (whole [] (drop (at + length l) text)) (rest-then b end within ys n x)))
+
+  -- no more is taken
+  ended : end ≤ length b → before count at (take end b) (idle 0 m (drop end b)) ≡ block-left (Taken.Lines count at end) m b
+  ended within =
+      let lines : count + 0 ≡ count = omega arith in
+      let bytes : at + 0 ≡ at = omega arith in
+      let written : length (take end b) + 0 ≡ end = omega (arith, length-take-le end b within) in
+      λ x. record { number = 0; lines = lines x; bytes = bytes x; written = written x; memory = m; buffer = take-append-drop end b x }
+
+  pub no-more-room : end ≤ length b → length b - end < 32 → so-far text count at end m b ≡ block-left (Taken.Lines count at end) m b
+  no-more-room within h = ap (before count at (take end b)) (no-room m (whole [] (drop at text)) (drop end b) (rw length-drop h)) ∙ ended within
+
+  pub no-more-lines : (l : List ℕ) → l ≡ line-at text at → length l ≡ 0 → end ≤ length b → so-far text count at end m b ≡ block-left (Taken.Lines count at end) m b
+  no-more-lines l q z within = ap (λ ls. before count at (take end b) (one-by-one m ls (drop end b))) (step-none text at (sym (ap length q) ∙ z) .0) ∙ ap (before count at (take end b)) (no-line m (drop end b)) ∙ ended within
+
+-- ── 21 and 22 are tested once ──
+module _ (m text b : List ℕ) where
+  pub block-short : length b < 32 → blocked m text b ≡ idle 21 m b
+  unfolding blocked
+  block-short h = rw (too-short 32 m b h) refl
+
+  pub block-bad : 32 ≤ length b → state-ok m ≡ false → blocked m text b ≡ idle 22 m b
+  unfolding blocked
+  block-bad h e = rw (state-bad 32 m b h e) refl
+
+  pub block-judged : 32 ≤ length b → state-ok m ≡ true → blocked m text b ≡ one-by-one m (whole [] text) b
+  unfolding blocked
+  block-judged h e = rw (not-refused 32 m b h e) refl
