@@ -6,12 +6,13 @@ use Prim.Native.Nat.{ℕ, _+_, _-_, _≤_, _<_}
 use native.Mathlib.Nat.{zero-add}
 use native.Mathlib.Omega.{arith}
 use lib.ListN.{length, take, drop, length-append, length-drop, take-append-drop, drop-of-length-le}
-use lib.Seq.{length-take-le, take-all, take-append-add, drop-append-add}
+use lib.Seq.{length-take-le, take-all, take-append-seam, drop-append-seam, take-append-add, drop-append-add}
 use borrow.Author.Tests.{lt-ltb, le-ltb}
+use Rattle.books.specs.Writing.{write}
 use Rattle.rules.specs.Testing.{state-ok}
 use Rattle.lines.specs.Splitting.{whole, line-at}
 use Rattle.lines.specs.Places.{step-on, step-none}
-use Rattle.calls.specs.Calling.{bytes-said, answer-to, Recorded, record-left, recorded}
+use Rattle.calls.specs.Calling.{bytes-said, verdict-on, answer-to, Recorded, record-left, recorded}
 use Rattle.calls.specs.Keeping.{too-short, state-bad, not-refused, judged-line, state-kept, answer-written}
 use Rattle.calls.specs.Blocks.{Block, idle, before, one-by-one, blocked, block-left}
 use Rattle.calls.specs.declared.Taken.{Taken}
@@ -36,13 +37,20 @@ module _ (m l b : List ℕ) (ok : state-ok m ≡ true) (room : 32 ≤ length b) 
   unfolding one-by-one
   line-taken ls = rw (le-ltb (length b) 32 room) (ap (λ (r : Recorded). before 1 (length l) (take (r .said .bytes) (r .buffer)) (one-by-one (r .memory) ls (drop (r .said .bytes) (r .buffer)))) (sym e))
 
+-- the line's answer stands first, and the others go on behind it
+pub line-answered : (m l b : List ℕ) → state-ok m ≡ true → 32 ≤ length b → (ls : List (List ℕ)) →
+    one-by-one m (l ∷ ls) b ≡ before 1 (length l) (answer-to m l) (one-by-one (write (verdict-on m l .edit) m) ls (drop (length (answer-to m l)) b))
+line-answered m l b ok room ls = let cs = answer-to m l in let rest = drop (length cs) b in
+    line-taken m l b ok room (sym (judged-line m l b room ok)) ls
+    ∙ (λ x. before 1 (length l) (take-append-seam cs rest x) (one-by-one (write (verdict-on m l .edit) m) ls (drop-append-seam cs rest x)))
+
 -- where under 32 bytes are left, no line is taken
-no-room : (m : List ℕ) (ls : List (List ℕ)) (b : List ℕ) → length b < 32 → one-by-one m ls b ≡ idle 0 m b
+pub no-room : (m : List ℕ) (ls : List (List ℕ)) (b : List ℕ) → length b < 32 → one-by-one m ls b ≡ idle 0 m b
 unfolding one-by-one
 no-room m [] b h = refl
 no-room m (l ∷ ls) b h = rw (lt-ltb (length b) 32 h) refl
 
-no-line : (m b : List ℕ) → one-by-one m [] b ≡ idle 0 m b
+pub no-line : (m b : List ℕ) → one-by-one m [] b ≡ idle 0 m b
 unfolding one-by-one
 no-line m b = refl
 

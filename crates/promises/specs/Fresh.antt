@@ -34,7 +34,7 @@ all-answer b [] = tt
 all-answer b (l ∷ ls) = (refl, all-answer (step b (said-by l)) ls)
 
 module _ (m : List ℕ) (long : least-words ≤ length m) where
-  fresh-ok : state-ok (made-words m) ≡ true
+  pub fresh-ok : state-ok (made-words m) ≡ true
   fresh-ok = fresh-state m long
 
   pub made-is : made-words m ≡ replicate (length m) 0

@@ -8,6 +8,7 @@ pub mod Carrying
 pub mod Closing
 pub mod Attempts
 pub mod Fresh
+pub mod Blocks
 -- and what it says
 pub mod Promises
 pub mod Examples

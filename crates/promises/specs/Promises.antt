@@ -26,7 +26,8 @@ use Rattle.promises.specs.Striking.{request-said, notice-said, opening-s
 use Rattle.promises.specs.Carrying.{all-booked, all-answered, after-is, struck-booked}
 use Rattle.promises.specs.Attempts.{records, opened-same, struck-record, first-attempt}
 use Rattle.promises.specs.Closing.{closes, closed-again}
-use Rattle.promises.specs.Fresh.{all-answer, made-is, day-ok, memory-is, replies-is, same-memory, same-replies, rest-says, rest-tells, day-fair, next-shown}
+use Rattle.promises.specs.Blocks.{Lent, Roomy, blocks-left, blocks-wrote, calls-of, taken, in-a-row, MakesDay, makes-day}
+use Rattle.promises.specs.Fresh.{all-answer, fresh-ok, made-is, day-ok, day-says, memory-is, replies-is, same-memory, same-replies, rest-says, rest-tells, day-fair, next-shown}
 
 -- What a call is replied goes by the calls before it: `reply G (left G m cs) c` is the reply to c in every day that begins with cs and goes on with c.
 pub one-by-one : (G : Gate) (m : List ℕ) (cs ds : List Call) → replies G m (cs ++ ds) ≡ replies G m cs ++ replies G (left G m cs) ds
@@ -82,6 +83,45 @@ module _ (m : List ℕ) (long : least-words ≤ length m) where
   closing-sums cs a place b l = subst (λ h. Closes (getElem? (desks h) place) h (sheet (left recorded (made-words m) cs) place b)) (sym (rest-tells m long cs a))
       (closes (left recorded (made-words m) cs) place b l (day-ok m long cs a) (room-of m) (map said-by (rest (lines cs))) (rest-says m long cs a))
 
+  -- Document 02, order 4: "Demands 2 and 3 read the same over the lines taken."
+  -- A day of blocks is the calls of the lines taken: none is refused, and what the blocks write and leave is what those calls do. So the promises above
+  -- hold of it, those of one line with `calls-of` for the calls, and the others as they are said here.
+  pub blocks-are-calls : (ds : List Lent) → Roomy ds → MakesDay (made-words m) ds
+  blocks-are-calls ds a = makes-day (made-words m) (fresh-ok m long) ds a
+
+  -- Each line taken is judged as the rulebook's day judges it, and the books after are that day's.
+  pub blocks-judged : (ds : List Lent) → Roomy ds →
+      (blocks-wrote (made-words m) ds ≡ in-a-row (all-answered (view (made-words m)) (taken (made-words m) ds))) × (view (blocks-left (made-words m) ds) ≡ run (fresh-books (room-of m)) (map said-by (taken (made-words m) ds)))
+  blocks-judged ds a = let w = blocks-are-calls ds a in let cs = calls-of (made-words m) ds in
+      (w .wrote ∙ ap in-a-row (replies-is m long cs (w .ample)), ap view (w .memory) ∙ day-says m long cs (w .ample))
+
+  -- What is left of the lines taken, lent alone in whatever blocks and buffers, gets the same answer lines and leaves the same memory.
+  pub blocks-rest-alone : (ds es : List Lent) → Roomy ds → Roomy es → taken (made-words m) es ≡ rest (taken (made-words m) ds) →
+      (blocks-wrote (made-words m) es ≡ in-a-row (rest-replies (replies recorded (made-words m) (calls-of (made-words m) ds)))) × (blocks-left (made-words m) es ≡ blocks-left (made-words m) ds)
+  blocks-rest-alone ds es a b e =
+      let v = blocks-are-calls ds a in
+      let w = blocks-are-calls es b in
+      let r = rest-alone (calls-of (made-words m) ds) (calls-of (made-words m) es) (v .ample) (w .ample) e in
+      (w .wrote ∙ ap in-a-row (r .0), w .memory ∙ r .1 ∙ sym (v .memory))
+
+  -- Blocks cut in any way that take the same lines write the same answers and leave the same memory.
+  pub cut-anyhow : (ds es : List Lent) → Roomy ds → Roomy es → taken (made-words m) ds ≡ taken (made-words m) es →
+      (blocks-wrote (made-words m) ds ≡ blocks-wrote (made-words m) es) × (blocks-left (made-words m) ds ≡ blocks-left (made-words m) es)
+  cut-anyhow ds es a b e =
+      let v = blocks-are-calls ds a in
+      let w = blocks-are-calls es b in
+      let cs = calls-of (made-words m) ds in
+      let fs = calls-of (made-words m) es in (
+        v .wrote ∙ ap in-a-row (replies-is m long cs (v .ample) ∙ ap (all-answered (view (made-words m))) e ∙ sym (replies-is m long fs (w .ample))) ∙ sym (w .wrote),
+        v .memory ∙ memory-is m long cs (v .ample) ∙ ap (all-booked (made-words m)) e ∙ sym (memory-is m long fs (w .ample)) ∙ sym (w .memory),
+      )
+
+  -- Each desk's closing line after the blocks shows its four sums over what is left of the lines taken.
+  pub blocks-closing-sums : (ds : List Lent) → Roomy ds → (place : ℕ) (b : List ℕ) → 96 ≤ length b →
+      let h = tells (rest-replies (replies recorded (made-words m) (calls-of (made-words m) ds))) in Closes (getElem? (desks h) place) h (sheet (blocks-left (made-words m) ds) place b)
+  blocks-closing-sums ds a place b l = let w = blocks-are-calls ds a in let h = tells (rest-replies (replies recorded (made-words m) (calls-of (made-words m) ds))) in
+      subst (λ n. Closes (getElem? (desks h) place) h (sheet n place b)) (sym (w .memory)) (closing-sums (calls-of (made-words m) ds) (w .ample) place b l)
+
 -- Two days with one room that strike to one list, setup included, end with the same memory, and with the same closing lines.
 pub alike : (m n : List ℕ) → least-words ≤ length m → length m ≡ length n → (cs ds : List Call) → Ample cs → Ample ds → rest (lines cs) ≡ rest (lines ds) →
     (left recorded (made-words m) cs ≡ left recorded (made-words n) ds) × ((place : ℕ) (b : List ℕ) → closed (left recorded (made-words m) cs) place b ≡ closed (left recorded (made-words n) ds) place b)
@@ -90,6 +130,14 @@ alike m n long e cs ds a b q =
     let p : made-words m ≡ made-words n = made-is m long ∙ ap (λ k. replicate k 0) e ∙ sym (made-is n long-too) in
     let s : left recorded (made-words m) cs ≡ left recorded (made-words n) ds = same-memory m long cs a ∙ (λ i. all-booked (p i) (q i)) ∙ sym (same-memory n long-too ds b) in
     (s, λ place b. ap (λ k. closed k place b) s)
+
+-- And so do two days of blocks whose lines taken strike to one list.
+pub blocks-alike : (m n : List ℕ) → least-words ≤ length m → length m ≡ length n → (ds es : List Lent) → Roomy ds → Roomy es → rest (taken (made-words m) ds) ≡ rest (taken (made-words n) es) →
+    blocks-left (made-words m) ds ≡ blocks-left (made-words n) es
+blocks-alike m n long e ds es a b q =
+    let v = blocks-are-calls m long ds a in
+    let w = blocks-are-calls n (subst (λ k. least-words ≤ k) e long) es b in
+    v .memory ∙ alike m n long e (calls-of (made-words m) ds) (calls-of (made-words n) es) (v .ample) (w .ample) q .0 ∙ sym (w .memory)
 
 -- A closing line that is asked for twice is the same, and the buffer stays as the first call left it. The call is lent memory to read alone.
 pub asked-twice : (m : List ℕ) (place : ℕ) (b : List ℕ) → closed m place (closed m place b .buffer) ≡ closed m place b
