@@ -1,8 +1,6 @@
 -- Each public call's statement allows one answer, one memory and one buffer only. The claims are about the contracts themselves (`Post`).
 use mathlib.Core.Path.{_≡_, refl, sym, ap, _∙_}
 use mathlib.Core.Bool.{cond}
-use mathlib.Core.List.{List}
-use Prim.Native.Nat.{ℕ}
 use lib.Dec.{eqb}
 use Rattle.calls.proofs.record.Kinds as record-kinds
 use Rattle.calls.proofs.record.Reads as record-reads
@@ -13,7 +11,7 @@ use Rattle.calls.proofs.closing.Reads as closing-reads
 use Rattle.fields.proofs.Single.{Once}
 use Rattle.fields.specs.Out.{Said}
 use Rattle.calls.specs.Calling.{answer-said, closing-said, Recorded, Closing}
-use Rattle.calls.specs.Blocks.{Block, block-left}
+use Rattle.calls.specs.Blocks.{Block, Took, took}
 use Rattle.calls.specs.declared.Answered.{Answered}
 use Rattle.calls.specs.declared.Taken.{Taken}
 use Rattle.calls.specs.declared.Closed.{Closed}
@@ -27,23 +25,13 @@ answer-back (Answered.Line n) = refl
 answer-back Answered.ShortBuffer = refl
 answer-back Answered.BadState = refl
 
-abbrev taken-for : Block → Taken
+abbrev taken-for : Took → Taken
 taken-for x = cond (eqb (x .number) 0) (Taken.Lines (x .lines) (x .bytes) (x .written)) (cond (eqb (x .number) 21) Taken.ShortBuffer Taken.BadState)
 
-taken-back : (x : Taken) (m b : List ℕ) → taken-for (block-left x m b) ≡ x
-taken-back (Taken.Lines k n w) m b = refl
-taken-back Taken.ShortBuffer m b = refl
-taken-back Taken.BadState m b = refl
-
-left-memory : (x : Taken) (m b : List ℕ) → block-left x m b .memory ≡ m
-left-memory (Taken.Lines k n w) m b = refl
-left-memory Taken.ShortBuffer m b = refl
-left-memory Taken.BadState m b = refl
-
-left-buffer : (x : Taken) (m b : List ℕ) → block-left x m b .buffer ≡ b
-left-buffer (Taken.Lines k n w) m b = refl
-left-buffer Taken.ShortBuffer m b = refl
-left-buffer Taken.BadState m b = refl
+taken-back : (x : Taken) → taken-for (took x) ≡ x
+taken-back (Taken.Lines k n w) = refl
+taken-back Taken.ShortBuffer = refl
+taken-back Taken.BadState = refl
 
 abbrev closing-for : Said → Closed
 closing-for x = cond (eqb (x .number) 0) (Closed.Line (x .bytes)) (cond (eqb (x .number) 21) Closed.ShortBuffer (cond (eqb (x .number) 22) Closed.BadState Closed.Unlisted))
@@ -64,13 +52,13 @@ record-buffer : Once 3 record-kinds.ps record-kinds.r record-reads.Post (λ κs 
 record-buffer κs a x y s t p q = ap (λ (r : Recorded). r .buffer) (p ∙ sym q)
 
 block-once : Once 3 block-kinds.ps block-kinds.r block-reads.Post (λ κs x s. x)
-block-once κs a x y s t p q = sym (taken-back x _ _) ∙ ap taken-for (p ∙ sym q) ∙ taken-back y _ _
+block-once κs a x y s t p q = sym (taken-back x) ∙ ap (λ (r : Block). taken-for (record { number = r .number; lines = r .lines; bytes = r .bytes; written = r .written })) (p ∙ sym q) ∙ taken-back y
 
 block-memory : Once 3 block-kinds.ps block-kinds.r block-reads.Post (λ κs x s. s .0 .now)
-block-memory κs a x y s t p q = sym (left-memory x _ _) ∙ ap (λ (r : Block). r .memory) (p ∙ sym q) ∙ left-memory y _ _
+block-memory κs a x y s t p q = ap (λ (r : Block). r .memory) (p ∙ sym q)
 
 block-buffer : Once 3 block-kinds.ps block-kinds.r block-reads.Post (λ κs x s. s .1 .1 .0 .now)
-block-buffer κs a x y s t p q = sym (left-buffer x _ _) ∙ ap (λ (r : Block). r .buffer) (p ∙ sym q) ∙ left-buffer y _ _
+block-buffer κs a x y s t p q = ap (λ (r : Block). r .buffer) (p ∙ sym q)
 
 closing-once : Once 2 closing-kinds.ps closing-kinds.r closing-reads.Post (λ κs x s. x)
 closing-once κs a x y s t p q = sym (closing-back x) ∙ ap (λ (r : Closing). closing-for (r .said)) (p ∙ sym q) ∙ closing-back y

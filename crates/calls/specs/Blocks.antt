@@ -37,8 +37,17 @@ one-by-one m (l ∷ ls) b = let r = recorded m l b in let n = r .said .bytes in
 unfoldable pub blocked : List ℕ → List ℕ → List ℕ → Block
 blocked m text b = let n = first (refusals 32 m b) in cond (eqb n 0) (one-by-one m (whole [] text) b) (idle n m b)
 
--- what the code answers
-abbrev pub block-left : Taken → List ℕ → List ℕ → Block
-block-left (Taken.Lines k n w) m b = record { number = 0; lines = k; bytes = n; written = w; memory = m; buffer = b }
-block-left Taken.ShortBuffer m b = idle 21 m b
-block-left Taken.BadState m b = idle 22 m b
+-- what the code answers: 21, 22, or what was taken
+pub record Took : Type 0 where
+  pub number : ℕ
+  pub lines : ℕ
+  pub bytes : ℕ
+  pub written : ℕ
+
+abbrev pub took : Taken → Took
+took (Taken.Lines k n w) = record { number = 0; lines = k; bytes = n; written = w }
+took Taken.ShortBuffer = record { number = 21; lines = 0; bytes = 0; written = 0 }
+took Taken.BadState = record { number = 22; lines = 0; bytes = 0; written = 0 }
+
+abbrev pub block-left : Took → List ℕ → List ℕ → Block
+block-left x m b = record { number = x .number; lines = x .lines; bytes = x .bytes; written = x .written; memory = m; buffer = b }

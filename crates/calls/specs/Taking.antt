@@ -5,16 +5,18 @@ use mathlib.Core.List.{List, [], _∷_, _++_, append-assoc, append-nil}
 use Prim.Native.Nat.{ℕ, _+_, _-_, _≤_, _<_}
 use native.Mathlib.Nat.{zero-add}
 use native.Mathlib.Omega.{arith}
+use native.Mathlib.Decide.{decLt}
 use lib.ListN.{length, take, drop, length-append, length-drop, take-append-drop, drop-of-length-le}
 use lib.Seq.{length-take-le, take-all, take-append-seam, drop-append-seam, take-append-add, drop-append-add}
 use borrow.Author.Tests.{lt-ltb, le-ltb}
+use Rattle.laws.specs.Tests.{on}
 use Rattle.books.specs.Writing.{write}
 use Rattle.rules.specs.Testing.{state-ok}
 use Rattle.lines.specs.Splitting.{whole, line-at}
 use Rattle.lines.specs.Places.{step-on, step-none}
 use Rattle.calls.specs.Calling.{bytes-said, verdict-on, answer-to, Recorded, record-left, recorded}
 use Rattle.calls.specs.Keeping.{too-short, state-bad, not-refused, judged-line, state-kept, answer-written}
-use Rattle.calls.specs.Blocks.{Block, idle, before, one-by-one, blocked, block-left}
+use Rattle.calls.specs.Blocks.{Block, idle, before, one-by-one, blocked, took, block-left}
 use Rattle.calls.specs.declared.Taken.{Taken}
 
 -- lines taken before lines taken
@@ -99,17 +101,17 @@ module _ (text : List ℕ) (count at end : ℕ) (m b : List ℕ) where
       ∙ sym (λ x. before (count + 1) (at + length l) (front-then b end within ys n x) (one-by-one k (whole [] (drop (at + length l) text)) (rest-then b end within ys n x)))
 
   -- no more is taken
-  ended : end ≤ length b → before count at (take end b) (idle 0 m (drop end b)) ≡ block-left (Taken.Lines count at end) m b
+  ended : end ≤ length b → before count at (take end b) (idle 0 m (drop end b)) ≡ block-left (took (Taken.Lines count at end)) m b
   ended within =
       let lines : count + 0 ≡ count = omega arith in
       let bytes : at + 0 ≡ at = omega arith in
       let written : length (take end b) + 0 ≡ end = omega (arith, length-take-le end b within) in
       λ x. record { number = 0; lines = lines x; bytes = bytes x; written = written x; memory = m; buffer = take-append-drop end b x }
 
-  pub no-more-room : end ≤ length b → length b - end < 32 → so-far text count at end m b ≡ block-left (Taken.Lines count at end) m b
+  pub no-more-room : end ≤ length b → length b - end < 32 → so-far text count at end m b ≡ block-left (took (Taken.Lines count at end)) m b
   no-more-room within h = ap (before count at (take end b)) (no-room m (whole [] (drop at text)) (drop end b) (rw length-drop h)) ∙ ended within
 
-  pub no-more-lines : (l : List ℕ) → l ≡ line-at text at → length l ≡ 0 → end ≤ length b → so-far text count at end m b ≡ block-left (Taken.Lines count at end) m b
+  pub no-more-lines : (l : List ℕ) → l ≡ line-at text at → length l ≡ 0 → end ≤ length b → so-far text count at end m b ≡ block-left (took (Taken.Lines count at end)) m b
   no-more-lines l q z within = ap (λ ls. before count at (take end b) (one-by-one m ls (drop end b))) (step-none text at (sym (ap length q) ∙ z) .0) ∙ ap (before count at (take end b)) (no-line m (drop end b)) ∙ ended within
 
 -- ── 21 and 22 are tested once ──
@@ -125,3 +127,21 @@ module _ (m text b : List ℕ) where
   pub block-judged : 32 ≤ length b → state-ok m ≡ true → blocked m text b ≡ one-by-one m (whole [] text) b
   unfolding blocked
   block-judged h e = rw (not-refused 32 m b h e) refl
+
+-- what is written has room
+within : (m : List ℕ) → state-ok m ≡ true → (ls : List (List ℕ)) (b : List ℕ) → one-by-one m ls b .written ≤ length b
+within m ok [] b = rw (no-line m b) (omega arith)
+within m ok (l ∷ ls) b = elim (decLt (length b) 32) [
+  | yes h ↦ rw (no-room m (l ∷ ls) b h) (omega arith)
+  | no h ↦ let room : 32 ≤ length b = omega (arith, h) in
+      let n = length (answer-to m l) in
+      let still = subst (λ (r : Recorded). state-ok (r .memory) ≡ true) (judged-line m l b room ok) (state-kept m l b ok) in
+      rw (line-answered m l b ok room ls) (omega (arith, within (write (verdict-on m l .edit) m) still ls (drop n b), length-drop n b, answer-written m l ok .1))
+]
+
+pub written-within : (m text b : List ℕ) → blocked m text b .written ≤ length b
+written-within m text b = elim (decLt (length b) 32) [
+  | yes h ↦ rw (block-short m text b h) (omega arith)
+  | no h ↦ on (λ t. state-ok m ≡ t → blocked m text b .written ≤ length b) (state-ok m)
+      (λ z e. rw (block-judged m text b (omega (arith, h)) e) (within m e (whole [] text) b)) (λ z e. rw (block-bad m text b (omega (arith, h)) e) (omega arith)) refl
+]

@@ -9,7 +9,7 @@ ghost use Rattle.fields.specs.Out.{begun};
 ghost use Rattle.rules.specs.Testing.{state-ok};
 ghost use Rattle.lines.specs.Splitting.{whole};
 ghost use Rattle.calls.specs.Calling.{bytes-said, answer-said, closing-said, record-left, recorded, closing-left, closed};
-ghost use Rattle.calls.specs.Blocks.{block-left, one-by-one, blocked};
+ghost use Rattle.calls.specs.Blocks.{took, block-left, one-by-one, blocked};
 use codec::Reading;
 use fields::Written;
 use store::Closing;
@@ -96,7 +96,7 @@ pub fn record(mem: &mut [u64], line: &[u8], to: &mut [u8]) -> Answered
 // Answers how many were taken, their bytes, and the bytes of their answer lines.
 fn judge_lines(mem: &mut [u64], text: &[u8], to: &mut [u8]) -> Taken
     requires { ⌜ state-ok (now mem) ≡ true ⌝ }
-    ensures { λ r. ⌜ block-left r (now (mem .exit)) (now (to .exit)) ≡ one-by-one (now (mem .entry)) (whole [] (now (text .entry))) (now (to .entry)) ⌝ }
+    ensures { λ r. ⌜ block-left (took r) (now (mem .exit)) (now (to .exit)) ≡ one-by-one (now (mem .entry)) (whole [] (now (text .entry))) (now (to .entry)) ⌝ }
 {
     let mut count = 0;
     let mut at = 0;
@@ -121,7 +121,7 @@ fn judge_lines(mem: &mut [u64], text: &[u8], to: &mut [u8]) -> Taken
 // that end in the text are judged one after the other, as if each had been lent alone with what is left of the buffer. It stops before the first
 // line for which fewer than 32 bytes are left; a last part without LF is not taken.
 pub fn block(mem: &mut [u64], text: &[u8], to: &mut [u8]) -> Taken
-    ensures { λ r. ⌜ block-left r (now (mem .exit)) (now (to .exit)) ≡ blocked (now (mem .entry)) (now (text .entry)) (now (to .entry)) ⌝ }
+    ensures { λ r. ⌜ block-left (took r) (now (mem .exit)) (now (to .exit)) ≡ blocked (now (mem .entry)) (now (text .entry)) (now (to .entry)) ⌝ }
 {
     if to.len() < ANSWER {
         return Taken::ShortBuffer;

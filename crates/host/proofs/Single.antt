@@ -10,6 +10,8 @@ use Rattle.host.proofs.ticketmoss_state.Kinds as state-kinds
 use Rattle.host.proofs.ticketmoss_state.Reads as state-reads
 use Rattle.host.proofs.ticketmoss_record.Kinds as record-kinds
 use Rattle.host.proofs.ticketmoss_record.Reads as record-reads
+use Rattle.host.proofs.ticketmoss_block.Kinds as block-kinds
+use Rattle.host.proofs.ticketmoss_block.Reads as block-reads
 use Rattle.host.proofs.ticketmoss_closing.Kinds as closing-kinds
 use Rattle.host.proofs.ticketmoss_closing.Reads as closing-reads
 use Rattle.host.proofs.ticketmoss_order_write.Kinds as write-kinds
@@ -41,6 +43,18 @@ record-memory κs a x y s t p q = p .1 .0 ∙ sym (q .1 .0)
 
 record-buffer : Once 3 record-kinds.ps record-kinds.r record-reads.Post (λ κs x s. s .1 .1 .0 .now)
 record-buffer κs a x y s t p q = p .1 .1 ∙ sym (q .1 .1)
+
+block-once : Once 4 block-kinds.ps block-kinds.r block-reads.Post (λ κs x s. x)
+block-once κs a x y s t p q = p .0 ∙ sym (q .0)
+
+block-memory : Once 4 block-kinds.ps block-kinds.r block-reads.Post (λ κs x s. s .0 .now)
+block-memory κs a x y s t p q = p .1 .0 ∙ sym (q .1 .0)
+
+block-buffer : Once 4 block-kinds.ps block-kinds.r block-reads.Post (λ κs x s. s .1 .1 .0 .now)
+block-buffer κs a x y s t p q = p .1 .1 .0 ∙ sym (q .1 .1 .0)
+
+block-taken : Once 4 block-kinds.ps block-kinds.r block-reads.Post (λ κs x s. s .1 .1 .1 .0 .now)
+block-taken κs a x y s t p q = p .1 .1 .1 ∙ sym (q .1 .1 .1)
 
 closing-once : Once 2 closing-kinds.ps closing-kinds.r closing-reads.Post (λ κs x s. x)
 closing-once κs a x y s t p q = p .0 ∙ sym (q .0)

@@ -11,6 +11,7 @@ use Rattle.rules.specs.Testing.{state-ok}
 use Rattle.meo.specs.Messages.{order-at, read-checks}
 use Rattle.meo.specs.declared.NewOrder.{NewOrder}
 use Rattle.fields.specs.Out.{Said, refuses, begun}
+use Rattle.calls.specs.Blocks.{Block}
 
 -- the bytes that were written, or minus the number of the refusal
 abbrev pub told : Said → ℤ
@@ -20,6 +21,14 @@ told x = cond (eqb (x .number) 0) (pos (x .bytes)) (negℤ (pos (x .number)))
 abbrev pub heard : ℤ → Said
 heard (pos n) = record { number = 0; bytes = n }
 heard (negsuc n) = refuses (suc n)
+
+-- a block's bytes written, or its refusal
+abbrev pub block-said : Block → Said
+block-said t = record { number = t .number; bytes = t .written }
+
+-- how many lines it took and their bytes, in two words; a refusal leaves the words
+abbrev pub taken-told : Block → List ℕ → List ℕ
+taken-told t ws = cond (eqb (t .number) 0) (t .lines ∷ t .bytes ∷ []) ws
 
 -- "lent state breaks a state rule, or is too short": 22, else nothing is refused
 abbrev pub state-said : List ℕ → Said

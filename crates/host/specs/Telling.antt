@@ -16,14 +16,17 @@ use Rattle.rules.specs.Testing.{state-ok}
 use Rattle.fields.specs.Out.{Said, refuses, begun}
 use Rattle.calls.specs.Calling.{wrote, answer-said, closing-said, answer-to, Recorded, record-left, recorded, Closing, closing-left, closing-of, closed, group-at}
 use Rattle.calls.specs.Keeping.{short-buffer, bad-state, judged-line, answer-written, closing-short-buffer, closing-bad-state, closing-unlisted, closing-line-of, closing-written}
+use Rattle.calls.specs.Blocks.{Block, blocked, took, block-left}
+use Rattle.calls.specs.Taking.{written-within}
 use Rattle.calls.specs.declared.Answered.{Answered}
+use Rattle.calls.specs.declared.Taken.{Taken}
 use Rattle.calls.specs.declared.Closed.{Closed}
 use Rattle.meo.specs.Messages.{sent-said, write-checks, write-said, read-checks, found-said, read-said}
 use Rattle.meo.specs.Orders.{read-order}
 use Rattle.meo.specs.declared.NewOrder.{NewOrder}
 use Rattle.meo.specs.declared.Found.{Found}
 use Rattle.meo.specs.declared.Sent.{Sent}
-use Rattle.host.specs.Exporting.{told, heard, state-said, words-for, order-words, read-refusals, read-told, read-left}
+use Rattle.host.specs.Exporting.{told, heard, block-said, taken-told, state-said, words-for, order-words, read-refusals, read-told, read-left}
 
 -- a refusal is heard
 refused-heard : (n : ℕ) → heard (told (refuses n)) ≡ refuses n
@@ -70,6 +73,19 @@ module _ (m l b : List ℕ) {m' b' : List ℕ} {x : Answered} where
 
   pub record-fits : (n : ℕ) → x ≡ Answered.Line n → record-left (answer-said x) m' b' ≡ recorded m l b → n < 2 ^ 63
   record-fits n q p = let e : n ≡ recorded m l b .said .bytes = ap (λ z. answer-said z .bytes) (sym q) ∙ ap (λ (r : Recorded). r .said .bytes) p in omega (arith, e, record-said m l b (λ x. x .bytes ≤ 32) (λ n. omega arith) (λ cs h. h))
+
+-- ── a block ──
+-- its answer told, what it leaves, and that it fits
+module _ (m l b : List ℕ) {m' b' : List ℕ} {x : Taken} (y : Taken) (q : x ≡ y) (p : block-left (took x) m' b' ≡ blocked m l b) where
+  same-block : block-left (took y) m' b' ≡ blocked m l b
+  same-block = ap (λ z. block-left (took z) m' b') (sym q) ∙ p
+
+  pub block-told : (ws : List ℕ) → let t = blocked m l b in
+      (told (block-said (block-left (took y) m' b')) ≡ told (block-said t)) × ((m' ≡ t .memory) × ((b' ≡ t .buffer) × (taken-told (block-left (took y) m' b') ws ≡ taken-told t ws)))
+  block-told ws = (ap (λ (t : Block). told (block-said t)) same-block, (ap (λ (t : Block). t .memory) same-block, (ap (λ (t : Block). t .buffer) same-block, ap (λ (t : Block). taken-told t ws) same-block)))
+
+  pub block-fits : took y .written ≤ length b
+  block-fits = subst (λ (t : Block). t .written ≤ length b) (sym same-block) (written-within m l b)
 
 -- ── a closing line ──
 -- a refusal, or a line of at most 96 bytes

@@ -8,11 +8,13 @@ ghost use Rattle.books.specs.Layout.{room-for};
 ghost use Rattle.store.specs.Making.{made, made-words};
 ghost use Rattle.fields.specs.Out.{refuses, begun};
 ghost use Rattle.calls.specs.Calling.{recorded, closed};
+ghost use Rattle.calls.specs.Blocks.{blocked};
 ghost use Rattle.codec.specs.Readings.{reading};
 ghost use Rattle.meo.specs.Messages.{order-of, write-said, write-left};
-ghost use Rattle.host.specs.Exporting.{told, state-said, words-for, order-words, read-told, read-left};
+ghost use Rattle.host.specs.Exporting.{told, block-said, taken-told, state-said, words-for, order-words, read-told, read-left};
 use calls::Answered;
 use calls::Closed;
+use calls::Taken;
 use meo::Found;
 use meo::NewOrder;
 use meo::Sent;
@@ -74,6 +76,33 @@ pub extern "C" fn ticketmoss_record(mem: &mut [u64], line: &[u8], to: &mut [u8])
         Answered::Line(count) => count as i64,
         Answered::ShortBuffer => -21,
         Answered::BadState => -22,
+    }
+}
+
+// Judges a block of lines: the bytes of their answer lines, or -21 or -22. How many lines were taken, and their bytes, stand in the two words.
+#[no_mangle]
+pub extern "C" fn ticketmoss_block(
+    mem: &mut [u64],
+    text: &[u8],
+    to: &mut [u8],
+    taken: &mut [u64; 2],
+) -> i64
+    ensures answer { λ r. ⌜ r ≡ told (block-said (blocked (now (mem .entry)) (now (text .entry)) (now (to .entry)))) ⌝ }
+    ensures memory { λ _. ⌜ now (mem .exit) ≡ blocked (now (mem .entry)) (now (text .entry)) (now (to .entry)) .memory ⌝ }
+    ensures buffer { λ _. ⌜ now (to .exit) ≡ blocked (now (mem .entry)) (now (text .entry)) (now (to .entry)) .buffer ⌝ }
+    ensures taken { λ _. ⌜ now (taken .exit) ≡ taken-told (blocked (now (mem .entry)) (now (text .entry)) (now (to .entry))) (now (taken .entry)) ⌝ }
+{
+    match calls::block(mem, text, to) {
+        Taken::Lines {
+            count,
+            bytes,
+            written,
+        } => {
+            *taken = [count as u64, bytes as u64];
+            written as i64
+        }
+        Taken::ShortBuffer => -21,
+        Taken::BadState => -22,
     }
 }
 
