@@ -128,20 +128,39 @@ module _ (m text b : List ℕ) where
   unfolding blocked
   block-judged h e = rw (not-refused 32 m b h e) refl
 
--- what is written has room
-within : (m : List ℕ) → state-ok m ≡ true → (ls : List (List ℕ)) (b : List ℕ) → one-by-one m ls b .written ≤ length b
-within m ok [] b = rw (no-line m b) (omega arith)
-within m ok (l ∷ ls) b = elim (decLt (length b) 32) [
-  | yes h ↦ rw (no-room m (l ∷ ls) b h) (omega arith)
+-- what is not refused has room and a state that meets the rules
+pub block-clear : (m text b : List ℕ) → blocked m text b .number ≡ 0 → (32 ≤ length b) × (state-ok m ≡ true)
+block-clear m text b e = elim (decLt (length b) 32) [
+  | yes h ↦ absurd (omega (arith, ap (λ (t : Block). t .number) (block-short m text b h), e))
+  | no h ↦ let room : 32 ≤ length b = omega (arith, h) in
+      (room, on (λ t. state-ok m ≡ t → t ≡ true) (state-ok m) (λ z q. refl) (λ z q. absurd (omega (arith, ap (λ (t : Block). t .number) (block-bad m text b room q), e))) refl)
+]
+
+-- ── what is written has room, and where an answer line more has room no line is left ──
+pub record Ran (ls : List (List ℕ)) (b : List ℕ) (t : Block) : Type 0 where
+  pub within : t .written ≤ length b
+  pub all-taken : 32 + t .written ≤ length b → t .lines ≡ length ls
+  pub some-taken : 1 ≤ t .written → 1 ≤ t .lines
+
+pub ran : (m : List ℕ) → state-ok m ≡ true → (ls : List (List ℕ)) (b : List ℕ) → Ran ls b (one-by-one m ls b)
+ran m ok [] b = rw (no-line m b) (record { within = omega arith; all-taken = λ h. refl; some-taken = λ h. absurd (omega arith) })
+ran m ok (l ∷ ls) b = elim (decLt (length b) 32) [
+  | yes h ↦ rw (no-room m (l ∷ ls) b h) (record { within = omega arith; all-taken = λ r. absurd (omega arith); some-taken = λ r. absurd (omega arith) })
   | no h ↦ let room : 32 ≤ length b = omega (arith, h) in
       let n = length (answer-to m l) in
       let still = subst (λ (r : Recorded). state-ok (r .memory) ≡ true) (judged-line m l b room ok) (state-kept m l b ok) in
-      rw (line-answered m l b ok room ls) (omega (arith, within (write (verdict-on m l .edit) m) still ls (drop n b), length-drop n b, answer-written m l ok .1))
+      let w = ran (write (verdict-on m l .edit) m) still ls (drop n b) in
+      let short = answer-written m l ok .1 in
+      rw (line-answered m l b ok room ls) (record {
+        within = omega (arith, w .within, length-drop n b, short);
+        all-taken = λ r. let e = w .all-taken (rw length-drop (omega arith)) in omega (arith, e);
+        some-taken = λ r. omega arith;
+      })
 ]
 
 pub written-within : (m text b : List ℕ) → blocked m text b .written ≤ length b
 written-within m text b = elim (decLt (length b) 32) [
   | yes h ↦ rw (block-short m text b h) (omega arith)
   | no h ↦ on (λ t. state-ok m ≡ t → blocked m text b .written ≤ length b) (state-ok m)
-      (λ z e. rw (block-judged m text b (omega (arith, h)) e) (within m e (whole [] text) b)) (λ z e. rw (block-bad m text b (omega (arith, h)) e) (omega arith)) refl
+      (λ z e. rw (block-judged m text b (omega (arith, h)) e) (ran m e (whole [] text) b .within)) (λ z e. rw (block-bad m text b (omega (arith, h)) e) (omega arith)) refl
 ]

@@ -12,10 +12,11 @@ ghost use Prim.Native.Nat.{_≤_};
 ghost use lib.ListN.{length};
 ghost use Rattle.lines.specs.Splitting.{last};
 ghost use Rattle.calls.specs.Calling.{recorded};
-ghost use Rattle.promises.specs.Day.{after, left};
+ghost use Rattle.promises.specs.Day.{left};
 ghost use Rattle.gate.specs.Turns.{call-for, LinesPassed, HeldFew};
 use calls::Answered;
 use calls::Closed;
+use calls::Taken;
 use fields::Place;
 use libc::STDERR_FILENO;
 use libc::STDIN_FILENO;
@@ -27,7 +28,7 @@ const PLACES: usize = 400;
 const WORDS: usize = books::LEAST_WORDS + PLACES * books::PLACE_WORDS;
 
 // The bytes of a block of input, and of one of answers.
-const BLOCK: usize = 65_536;
+const BLOCK: usize = 262_144;
 
 // The bytes that an answer line and a closing line are lent.
 const ANSWER: usize = 32;
@@ -106,39 +107,31 @@ fn say_refused() {
     io::write_all(STDERR_FILENO, b"gate: its own state is refused\n");
 }
 
-// Judges a line, and puts its answer after those that wait.
-fn judge_line(mem: &mut [u64], line: &[u8], answers: &mut [u8], count: usize) -> Answers
-    ensures { λ _. ⌜ now (mem .exit) ≡ after recorded (now (mem .entry)) (call-for (now (line .entry))) ⌝ }
-{
-    let mut answer = [0u8; ANSWER];
-    let Answered::Line(to) = calls::record(mem, line, &mut answer) else {
-        say_refused();
-        return Answers::NoMore;
-    };
-    put_line(answers, count, fields::part(&answer, Place { from: 0, to }))
-}
-
-// Judges the lines that end in a text, one after the other, and writes their answers. Answers where the last of them ends.
+// Judges the lines that end in a text, and writes their answers. Answers where the last of them ends. Where the answers may not have room for
+// one more, those that there are are written, and it goes on after the lines taken.
 fn judge_lines(mem: &mut [u64], text: &[u8], answers: &mut [u8]) -> Judged
     ensures { λ r. ⌜ LinesPassed (now (text .entry)) (now (mem .entry)) r (now (mem .exit)) ⌝ }
 {
-    let mut count = 0;
     let mut at = 0;
     loop {
-        let line = lines::line_at(text, at);
-        if line.len() == 0 {
-            break;
-        }
-        let Answers::Waiting(waiting) = judge_line(mem, lines::lent(line), answers, count) else {
+        let Taken::Lines {
+            count: _,
+            bytes,
+            written,
+        } = calls::block(mem, &text[at..], answers)
+        else {
+            say_refused();
             return Judged::Stopped;
         };
-        count = waiting;
-        at += line.len();
+        if !is_written(answers, written) {
+            return Judged::Stopped;
+        }
+        at += bytes;
+        if answers.len() - written >= ANSWER {
+            break;
+        }
     }
-    if is_written(answers, count) {
-        return Judged::UpTo(at);
-    }
-    Judged::Stopped
+    Judged::UpTo(at)
 }
 
 // Reads once, after the bytes that are held, and answers where the text then ends. Standard error says why a read failed.
@@ -179,7 +172,12 @@ fn judge_last(mem: &mut [u64], part: &[u8], answers: &mut [u8]) -> Answers
     if part.len() == 0 {
         return Answers::Waiting(0);
     }
-    judge_line(mem, part, answers, 0)
+    let mut answer = [0u8; ANSWER];
+    let Answered::Line(to) = calls::record(mem, part, &mut answer) else {
+        say_refused();
+        return Answers::NoMore;
+    };
+    put_line(answers, 0, fields::part(&answer, Place { from: 0, to }))
 }
 
 // Puts the closing line of the group at a place in listing order.
@@ -255,7 +253,7 @@ fn main() {
         say_refused();
         return;
     };
-    let mut text = io::large_buffer();
-    let mut answers = io::large_buffer();
+    let mut text = [0u8; BLOCK];
+    let mut answers = [0u8; BLOCK];
     judge_day(&mut mem, &mut text, &mut answers);
 }

@@ -14,7 +14,7 @@ use Rattle.laws.specs.Tests.{on}
 use Rattle.laws.specs.Tables.{All, all-append, all-both}
 use Rattle.fields.specs.Parts.{ended}
 use Rattle.fields.specs.Numbers.{below}
-use Rattle.codec.specs.Readings.{reading}
+use Rattle.codec.specs.Readings.{record-of, reading}
 use Rattle.codec.specs.declared.Reading.the-variants.{Broken}
 use Rattle.lines.specs.Splitting.{whole, rest, last, lines, lent}
 use Rattle.lines.specs.Blocks.{Clear, rest-clear, day, day-lines}
@@ -27,7 +27,7 @@ pub record Line (l : List ℕ) : Type 0 where
   pub short : length end ≤ 1
   pub made : l ≡ body ++ end
 
-whole-lines : (held bs : List ℕ) → Clear held → All Line (whole held bs)
+pub whole-lines : (held bs : List ℕ) → Clear held → All Line (whole held bs)
 unfolding whole
 whole-lines held [] c = tt
 whole-lines held (b ∷ bs) c = on (λ t. eqb b 10 ≡ t → All Line (cond t ((held ++ (b ∷ [])) ∷ whole [] bs) (whole (held ++ (b ∷ [])) bs))) (eqb b 10)
@@ -61,6 +61,10 @@ cut-broken l w h =
 
 pub lent-reads : (l : List ℕ) → Line l → reading (lent l) ≡ reading l
 lent-reads l w = ⊎-elim (λ h. cut-broken l w h ∙ sym (long-broken l h)) (λ h. ap reading (take-all 161 l h)) (below 161 (length l))
+
+-- and says the same
+pub lent-says : (l : List ℕ) → Line l → record-of (lent l) (reading (lent l)) ≡ record-of l (reading l)
+lent-says l w = ⊎-elim (λ h. rw (cut-broken l w h, long-broken l h) refl) (λ h. ap (λ l. record-of l (reading l)) (take-all 161 l h)) (below 161 (length l))
 
 pub day-reads : (blocks : List (List ℕ)) → map reading (day [] blocks) ≡ map reading (lines (flatten blocks))
 day-reads blocks = ap (map reading) (day-lines blocks) ∙ each (lines (flatten blocks)) (all-lines (flatten blocks))

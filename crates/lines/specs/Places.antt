@@ -2,12 +2,12 @@
 use mathlib.Core.Path.{_≡_, refl, sym, ap, subst, _∙_}
 use mathlib.Core.Bool.{false}
 use mathlib.Core.Logic.{_⊎_, inl, inr, ⊎-elim}
-use mathlib.Core.List.{List, [], _∷_, _++_, append-nil, append-assoc}
-use Prim.Native.Nat.{ℕ, suc, _+_, _-_, _≤_, _<_, max}
+use mathlib.Core.List.{List, [], _∷_, _++_, flatten, append-nil, append-assoc}
+use Prim.Native.Nat.{ℕ, zero, suc, _+_, _-_, _≤_, _<_, max}
 use native.Mathlib.Numerals.{add-one}
 use native.Mathlib.Omega.{arith}
 use lib.Dec.{eqb}
-use lib.ListN.{length, take, drop, getD, length-take, length-drop}
+use lib.ListN.{length, take, drop, getD, length-append, length-take, length-drop}
 use lib.Seq.{drop-cons, drop-drop, take-suc, getD-drop}
 use borrow.Author.Tests.{eq-eqb, ne-eqb}
 use Rattle.laws.specs.Tests.{on}
@@ -119,3 +119,35 @@ line-within t at =
     ⊎-elim (λ w. omega (arith, ap (λ ls. length (first ls)) (w .0)))
     (λ w. omega (arith, first-is u (w .0) (w .1), w .1 .some-bytes, w .1 .within, length-drop at t))
     (next-line [] u)
+
+-- ── the first lines of a text, and what is left of it after them ──
+pub record Taken (t : List ℕ) (k n : ℕ) : Type 0 where
+  pub within : n ≤ length t
+  pub left : whole [] (drop n t) ≡ drop k (whole [] t)
+  pub held : rest [] (drop n t) ≡ rest [] t
+
+pub lines-taken : (t : List ℕ) (k : ℕ) → Taken t k (length (flatten (take k (whole [] t))))
+unfolding flatten
+lines-taken t zero = record { within = omega arith; left = refl; held = refl }
+lines-taken t (suc k) = ⊎-elim
+    (λ w. rw (w .0) (record { within = omega arith; left = w .0 ∙ sym (ap (drop (suc k)) (w .0)); held = refl }))
+    (λ w. let n = w .0 in let more = lines-taken (drop n t) k in
+    let e : length (flatten (take (suc k) (whole [] t))) ≡ n + length (flatten (take k (whole [] (drop n t)))) = ap (λ ls. length (flatten (take (suc k) ls))) (w .1 .line) ∙ length-append (take n t) (flatten (take k (whole [] (drop n t)))) ∙ ap (λ i. i + length (flatten (take k (whole [] (drop n t))))) (length-take n t ∙ omega (arith, w .1 .within)) in
+    let f = drop-drop (length (flatten (take k (whole [] (drop n t))))) n t in
+    subst (Taken t (suc k)) (sym e) (record {
+      within = omega (arith, more .within, length-drop n t, w .1 .within);
+      left = ap (whole []) (sym f) ∙ more .left ∙ sym (ap (drop (suc k)) (w .1 .line));
+      held = ap (rest []) (sym f) ∙ more .held ∙ sym (w .1 .after);
+    }))
+    (next-line [] t)
+
+-- a line has bytes
+pub taken-some : (t : List ℕ) (k : ℕ) → 1 ≤ k → (whole [] t ≡ [] → ⊥) → 1 ≤ length (flatten (take k (whole [] t)))
+unfolding flatten
+taken-some t zero h ne = absurd (omega arith)
+taken-some t (suc k) h ne = ⊎-elim (λ w. absurd (ne (w .0)))
+    (λ w. rw (w .1 .line) (omega (arith, length-append (take (w .0) t) (flatten (take k (whole [] (drop (w .0) t)))), length-take (w .0) t, w .1 .within, w .1 .some-bytes))) (next-line [] t)
+
+-- where no line ends, all is held
+pub none-ends : (t : List ℕ) → whole [] t ≡ [] → rest [] t ≡ t
+none-ends t e = no-line t (ap (λ ls. length (first ls)) e) .1

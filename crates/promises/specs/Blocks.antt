@@ -18,7 +18,7 @@ use Rattle.calls.specs.Keeping.{judged-line}
 use Rattle.calls.specs.Blocks.{Block, idle, before, one-by-one, blocked}
 use Rattle.calls.specs.Taking.{line-answered, no-room, no-line, block-judged}
 use Rattle.promises.specs.Day.{Call, lines, Ample, after, left, Reply, reply, replies}
-use Rattle.promises.specs.Carrying.{booked, booked-ok, after-is, reply-is, left-ok}
+use Rattle.promises.specs.Carrying.{booked, booked-ok, after-is, reply-is, all-booked, left-ok, left-is}
 
 -- ── a day of blocks ──
 -- a block call lends a text and an answer buffer
@@ -129,7 +129,7 @@ pub record MakesDay (m : List ℕ) (ds : List Lent) : Type 0 where
   pub memory : blocks-left m ds ≡ left recorded m (calls-of m ds)
   pub wrote : blocks-wrote m ds ≡ in-a-row (replies recorded m (calls-of m ds))
 
-makes-block : (m : List ℕ) → state-ok m ≡ true → (d : Lent) → 32 ≤ length (d .buffer) → Makes m (whole [] (d .text)) (d .buffer) (block-of m d) (calls-for m (whole [] (d .text)) (d .buffer))
+pub makes-block : (m : List ℕ) → state-ok m ≡ true → (d : Lent) → 32 ≤ length (d .buffer) → Makes m (whole [] (d .text)) (d .buffer) (block-of m d) (calls-for m (whole [] (d .text)) (d .buffer))
 makes-block m ok d room = rw (block-judged m (d .text) (d .buffer) room ok) (makes m ok (whole [] (d .text)) (d .buffer))
 
 pub makes-day : (m : List ℕ) → state-ok m ≡ true → (ds : List Lent) → Roomy ds → MakesDay m ds
@@ -149,3 +149,8 @@ makes-day m ok (d ∷ ds) a =
       wrote = (λ i. take (w .written i) (w .buffer i) ++ v .wrote i) ∙ ap (λ a. a ++ in-a-row (replies recorded (t .memory) es)) (take-append-seam f (drop (length f) (d .buffer)))
           ∙ ap (λ m. f ++ in-a-row (replies recorded m es)) (w .memory) ∙ sym (row-both m cs es);
     }
+
+-- its memory goes by the lines alone
+pub block-booked : (m : List ℕ) (ok : state-ok m ≡ true) (d : Lent) → 32 ≤ length (d .buffer) → block-of m d .memory ≡ all-booked m (take (block-of m d .lines) (whole [] (d .text)))
+block-booked m ok d room = let w = makes-block m ok d room in
+    w .memory ∙ left-is m (calls-for m (whole [] (d .text)) (d .buffer)) (w .ample) ok ∙ ap (all-booked m) (w .first-lines)
