@@ -3,7 +3,6 @@ use borrow.Author.Needs.{needs}
 use Rattle.rulings.proofs.find_order.Statement.{statement}
 use mathlib.Core.Path.{sym, ap, _∙_}
 use native.Mathlib.Omega.{arith}
-use Rattle.books.specs.View.{books-in}
 use Rattle.books.specs.Judged.{valid-counted}
 use Rattle.books.specs.Layout.{room-of}
 use Rattle.books.specs.View.{rows-of}
@@ -38,8 +37,7 @@ enum-told-2 : tie.Need-enum-told-2
 enum-told-2 c = search needs
 
 returns-2 : tie.Need-returns-2
-unfolding books-in
-returns-2 c = let s = c .before .before .before .before .before .before .before .before .before .before .before in let m = s .args .mem .now in order-closed (rows-of m) (room-of m) (named-by (s .args .key)) (s .pre .0 .sound .asked-apart) _ (sym (c .before .before .before .before .i .given .1) ∙ c .before .before .before .before .before .before .find-place .ensures) (sym (is-order-is m _) ∙ ap (is-order m) (sym (c .before .before .request-at .ensures)) ∙ sym (c .before .opens .ensures) ∙ c .if1 .left)
+returns-2 c = let s = c .before .before .before .before .before .before .before .before .before .before .before in let m = s .args .mem .now in order-closed (rows-of m) (room-of m) (named-by (s .args .key)) (s .pre .1 .keys-apart) _ (sym (c .before .before .before .before .i .given .1) ∙ c .before .before .before .before .before .before .find-place .ensures) (sym (is-order-is m _) ∙ ap (is-order m) (sym (c .before .before .request-at .ensures)) ∙ sym (c .before .opens .ensures) ∙ c .if1 .left)
 
 returns-3 : tie.Need-returns-3
 returns-3 c = let s = c .before .before .before .before .before .before .before in order-free (rows-of (s .args .mem .now)) (room-of (s .args .mem .now)) (named-by (s .args .key)) _ (sym (c .enum-told .given .1) ∙ c .before .before .find-place .ensures)
