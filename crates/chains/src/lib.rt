@@ -1,13 +1,16 @@
-// The test that no two rows begin with the same words. Each row is compared only with the earlier rows of its slot, so the time is linear
-// in the rows unless words are chosen to fall into one slot; the answer is right in either case.
-// The slots' chains stand in local arrays, whose size goes by how many rows there are.
+// Rows found by their first words, and the test that no two begin with the same. Rows whose words have one hash are of one slot, and a row
+// is compared only with those of its slot: the time of a search goes by how many these are, and the answer is right however many they are.
+// The slots' chains stand in two arrays: head has for each slot one past its latest row, next for each row one past the latest earlier row
+// of its slot, and either 0 where there is none. head is of any length but 0, and next as long as there are rows.
 // Everywhere the rows stand in mem one after the other: at is where the first begins, width how many words a row has, and words how many
 // of them, from its first on, are compared.
 ghost use mathlib.Core.Path.{_≡_};
-ghost use Prim.Native.Nat.{_+_, _≤_};
-ghost use Rattle.laws.specs.Numbered.{apart};
-ghost use Rattle.chains.specs.Chain.{fresh, Linked, Clear};
-ghost use Rattle.chains.specs.Words.{HasRows, same-row, mixed, hash-row};
+ghost use mathlib.Core.Bool.{true};
+ghost use Prim.Native.Nat.{_+_, _≤_, _<_};
+ghost use lib.ListN.{length};
+ghost use Rattle.laws.specs.Numbered.{least, apart};
+ghost use Rattle.chains.specs.Chain.{fresh, Linked, Walked, Met, Clear, Chained};
+ghost use Rattle.chains.specs.Words.{HasRows, same-words, same-row, begins, mixed, hash-words, hash-row};
 
 // One past the largest half of a word, and the factors by which a hash mixes the halves.
 const HALF: u64 = 4_294_967_296;
@@ -38,12 +41,11 @@ fn mix(h: u64, w: u64) -> u64
     x % HALF * LOW_FACTOR + x / HALF * HIGH_FACTOR
 }
 
-// The hash of a row's first words: the upper half, which every word has reached after one more mixing.
-fn hash_at(mem: &[u64], at: usize, width: usize, words: usize, i: usize) -> usize
-    requires { ⌜ HasRows (now mem) at width words (i + 1) ⌝ }
-    ensures { λ r. ⌜ r ≡ hash-row (now (mem .entry)) at width words i ⌝ }
+// The hash of so many words from a word on: the upper half, which every word has reached after one more mixing.
+fn hash_at(mem: &[u64], b: usize, words: usize) -> usize
+    requires { ⌜ b + words ≤ length (now mem) ⌝ }
+    ensures { λ r. ⌜ r ≡ hash-words (now (mem .entry)) b words ⌝ }
 {
-    let b = at + i * width;
     let mut h = 0;
     let mut done = 0;
     while done < words {
@@ -54,17 +56,15 @@ fn hash_at(mem: &[u64], at: usize, width: usize, words: usize, i: usize) -> usiz
     (last / HALF) as usize
 }
 
-// Whether a row begins with the words of a later one. They are compared where they stand, up to the first that differs.
-fn same(mem: &[u64], at: usize, width: usize, words: usize, i: usize, j: usize) -> bool
-    requires { ⌜ HasRows (now mem) at width words (j + 1) ⌝ }
-    requires { ⌜ i ≤ j ⌝ }
-    ensures { λ r. ⌜ r ≡ same-row (now (mem .entry)) at width words i j ⌝ }
+// Whether so many words from a word on are those of the key from another on. They are compared where they stand, up to the first that differs.
+fn same(mem: &[u64], a: usize, key: &[u64], b: usize, words: usize) -> bool
+    requires { ⌜ a + words ≤ length (now mem) ⌝ }
+    requires { ⌜ b + words ≤ length (now key) ⌝ }
+    ensures { λ r. ⌜ r ≡ same-words (now (mem .entry)) a (now (key .entry)) b words ⌝ }
 {
-    let a = at + i * width;
-    let b = at + j * width;
     let mut k = 0;
     while k < words {
-        if mem[a + k] != mem[b + k] {
+        if mem[a + k] != key[b + k] {
             return false;
         }
         k += 1;
@@ -72,26 +72,77 @@ fn same(mem: &[u64], at: usize, width: usize, words: usize, i: usize, j: usize) 
     true
 }
 
-// Whether no row before the j-th begins with its words. Only those of its slot are looked at, the latest first: next has each row's link,
-// one past the latest earlier row of its slot, or 0 where there is none.
+// A row before the n-th that begins with the key's words from b on, or n where none does. Only those of one slot are looked at, the latest
+// first, which is one before the link it is given.
+fn walk(
+    mem: &[u64],
+    at: usize,
+    width: usize,
+    n: usize,
+    key: &[u64],
+    b: usize,
+    words: usize,
+    next: &[u16],
+    latest: usize,
+) -> usize
+    requires { ⌜ HasRows (now mem) at width words n ⌝ }
+    requires { ⌜ b + words ≤ length (now key) ⌝ }
+    requires { ⌜ Walked (hash-row (now mem) at width words) (begins (now mem) at width (now key) b words) (now next) n latest ⌝ }
+    ensures { λ r. ⌜ Met (begins (now (mem .entry)) at width (now (key .entry)) b words) n r ⌝ }
+{
+    let mut q = latest;
+    while 0 < q {
+        let k = q - 1;
+        if same(mem, at + k * width, key, b, words) {
+            return k;
+        }
+        q = wide(next[k]);
+    }
+    n
+}
+
+// Whether no row before the j-th begins with its words.
 fn is_fresh(mem: &[u64], at: usize, width: usize, words: usize, next: &[u16], j: usize) -> bool
     requires { ⌜ HasRows (now mem) at width words (j + 1) ⌝ }
     requires { ⌜ Linked (hash-row (now mem) at width words) (now next) j ⌝ }
     ensures { λ r. ⌜ r ≡ fresh (same-row (now (mem .entry)) at width words) j ⌝ }
 {
-    let mut q = wide(next[j]);
-    while 0 < q {
-        let k = q - 1;
-        if same(mem, at, width, words, k, j) {
-            return false;
-        }
-        q = wide(next[k]);
-    }
-    true
+    walk(
+        mem,
+        at,
+        width,
+        j,
+        mem,
+        at + j * width,
+        words,
+        next,
+        wide(next[j]),
+    )
+        >= j
 }
 
-// Whether no two of the first n rows begin with the same words, with clear arrays: head gets each slot's latest row, next each row's link.
-fn distinct_in(
+// One row more in the chains: its link is the latest row of its slot, head has each slot's, and it is the latest now.
+pub fn link_row(
+    mem: &[u64],
+    at: usize,
+    width: usize,
+    words: usize,
+    j: usize,
+    head: &mut [u16],
+    next: &mut [u16],
+)
+    requires { ⌜ HasRows (now mem) at width words (j + 1) ⌝ }
+    requires { ⌜ Chained (hash-row (now mem) at width words) (now head) (now next) j ⌝ }
+    requires { ⌜ j < length (now next) ⌝ }
+    ensures { λ _. ⌜ Chained (hash-row (now (mem .entry)) at width words) (now (head .exit)) (now (next .exit)) (j + 1) ⌝ }
+{
+    let s = hash_at(mem, at + j * width, words) % head.len();
+    next[j] = head[s];
+    head[s] = (j + 1) as u16;
+}
+
+// Whether no two of the first n rows begin with the same words, with clear arrays. Where none do, the arrays have the chains of all.
+pub fn chain_rows(
     mem: &[u64],
     at: usize,
     width: usize,
@@ -102,20 +153,39 @@ fn distinct_in(
 ) -> bool
     requires { ⌜ HasRows (now mem) at width words n ⌝ }
     requires { ⌜ Clear (now head) (now next) n ⌝ }
-    ensures { λ r. ⌜ r ≡ apart (same-row (now (mem .entry)) at width words) n ⌝ }
+    ensures answer { λ r. ⌜ r ≡ apart (same-row (now (mem .entry)) at width words) n ⌝ }
+    ensures chains { λ r. ⌜ (r ≡ true → Chained (hash-row (now (mem .entry)) at width words) (now (head .exit)) (now (next .exit)) n) ⌝ }
 {
-    let d = head.len();
     let mut j = 0;
     while j < n {
-        let s = hash_at(mem, at, width, words, j) % d;
-        next[j] = head[s];
+        link_row(mem, at, width, words, j, head, next);
         if !is_fresh(mem, at, width, words, next, j) {
             return false;
         }
-        head[s] = (j + 1) as u16;
         j += 1;
     }
     true
+}
+
+// The row of the first n that begins with the words of the key, or n where none does. The arrays have the chains of these rows, no two of
+// which begin with the same words.
+pub fn find_row(
+    mem: &[u64],
+    at: usize,
+    width: usize,
+    key: &[u64],
+    n: usize,
+    head: &[u16],
+    next: &[u16],
+) -> usize
+    requires { ⌜ HasRows (now mem) at width (length (now key)) n ⌝ }
+    requires { ⌜ Chained (hash-row (now mem) at width (length (now key))) (now head) (now next) n ⌝ }
+    requires { ⌜ apart (same-row (now mem) at width (length (now key))) n ≡ true ⌝ }
+    ensures { λ r. ⌜ r ≡ least (begins (now (mem .entry)) at width (now (key .entry)) 0 (length (now (key .entry)))) n ⌝ }
+{
+    let words = key.len();
+    let s = hash_at(key, 0, words) % head.len();
+    walk(mem, at, width, n, key, 0, words, next, wide(head[s]))
 }
 
 // The same with arrays of its own, for few rows: at most 512.
@@ -126,7 +196,7 @@ pub fn few_apart(mem: &[u64], at: usize, width: usize, words: usize, n: usize) -
 {
     let mut head = [0u16; 2 * SMALL];
     let mut next = [0u16; SMALL];
-    distinct_in(mem, at, width, words, n, &mut head, &mut next)
+    chain_rows(mem, at, width, words, n, &mut head, &mut next)
 }
 
 // The same with longer arrays.
@@ -137,7 +207,7 @@ fn middle(mem: &[u64], at: usize, width: usize, words: usize, n: usize) -> bool
 {
     let mut head = [0u16; 2 * MIDDLE];
     let mut next = [0u16; MIDDLE];
-    distinct_in(mem, at, width, words, n, &mut head, &mut next)
+    chain_rows(mem, at, width, words, n, &mut head, &mut next)
 }
 
 // The same with arrays for as many rows as there can be.
@@ -147,7 +217,7 @@ fn large(mem: &[u64], at: usize, width: usize, words: usize, n: usize) -> bool
 {
     let mut head = [0u16; 2 * LARGE];
     let mut next = [0u16; LARGE];
-    distinct_in(mem, at, width, words, n, &mut head, &mut next)
+    chain_rows(mem, at, width, words, n, &mut head, &mut next)
 }
 
 // Whether no two of the first n rows begin with the same words.

@@ -4,5 +4,5 @@ use Rattle.judge.proofs.judge.Kinds as judge-kinds
 use Rattle.judge.proofs.judge.Reads as judge-reads
 use Rattle.fields.proofs.Single.{Once}
 
-judge-once : Once 2 judge-kinds.ps judge-kinds.r judge-reads.Post (λ κs x s. x)
+judge-once : Once 4 judge-kinds.ps judge-kinds.r judge-reads.Post (λ κs x s. x)
 judge-once κs a x y s t p q = p ∙ sym q

@@ -11,6 +11,7 @@ ghost use Rattle.books.specs.View.{group-of, rows-of, view};
 ghost use Rattle.books.specs.Rules.{Valid};
 ghost use Rattle.packing.specs.Words.{named};
 ghost use Rattle.store.specs.Finding.{mpid-word, named-by};
+ghost use Rattle.store.specs.Indexing.{Indexed};
 ghost use Rattle.rules.specs.Passing.{HasRow, target-at};
 ghost use Rattle.codec.specs.Readings.{key-of, record-of};
 ghost use Rattle.codec.specs.Lines.{InForm};
@@ -312,13 +313,21 @@ fn sent_for(deal: Deal, number: u64) -> u64
 }
 
 // A request judged that takes a place: its ruling, remembered.
-fn new_verdict(mem: &[u64], group: usize, key: Key, deal: Deal) -> Verdict
+fn new_verdict(
+    mem: &[u64],
+    heads: &[u16],
+    links: &[u16],
+    group: usize,
+    key: Key,
+    deal: Deal,
+) -> Verdict
     requires { ⌜ Desk (now mem) (mpid-word (key .owner)) group ⌝ }
     requires { ⌜ Sided deal ⌝ }
     requires { ⌜ SmallDeal deal ⌝ }
+    requires { ⌜ Indexed (now mem) (now heads) (now links) ⌝ }
     ensures { λ r. ⌜ r ≡ verdict-in-rows (rows-of (now (mem .entry))) (remember (requested key deal) (deal-ruling (view (now (mem .entry)) .ledger) (group-of (rows-of (now (mem .entry))) group) (named-by key) (deal-said deal))) ⌝ }
 {
-    let ruling = rulings::deal_ruling(mem, group, key, deal);
+    let ruling = rulings::deal_ruling(mem, heads, links, group, key, deal);
     let number = ruling.number;
     let deed = ruling.deed;
     let asking = asking_of(deal);
@@ -337,27 +346,29 @@ fn new_verdict(mem: &[u64], group: usize, key: Key, deal: Deal) -> Verdict
 }
 
 // A request judged: 5, a known identifier, 7, or as its ruling is.
-fn request_verdict(mem: &[u64], key: Key, deal: Deal) -> Verdict
+fn request_verdict(mem: &[u64], heads: &[u16], links: &[u16], key: Key, deal: Deal) -> Verdict
     requires { ⌜ Valid (now mem) ⌝ }
     requires { ⌜ Sided deal ⌝ }
     requires { ⌜ SmallDeal deal ⌝ }
+    requires { ⌜ Indexed (now mem) (now heads) (now links) ⌝ }
     ensures { λ r. ⌜ r ≡ verdict-in-rows (rows-of (now (mem .entry))) (judge-request (view (now (mem .entry))) (requested key deal)) ⌝ }
 {
     let group = rulings::find_group(mem, key.owner);
     if group >= mem[books::GROUPS_LISTED] as usize {
         return reply(5);
     }
-    match store::find_place(mem, key) {
+    match store::find_place(mem, heads, links, key) {
         Found::At(i) => known_verdict(mem, i, key, deal),
-        Found::Free(_) => new_verdict(mem, group, key, deal),
+        Found::Free(_) => new_verdict(mem, heads, links, group, key, deal),
         Found::Full => reply(7),
     }
 }
 
 // A notice judged: S, 18, or its number is taken, booked (K) or set aside (A).
-fn notice_verdict(mem: &[u64], number: u64, news: News) -> Verdict
+fn notice_verdict(mem: &[u64], heads: &[u16], links: &[u16], number: u64, news: News) -> Verdict
     requires { ⌜ Valid (now mem) ⌝ }
     requires { ⌜ SmallNews news ⌝ }
+    requires { ⌜ Indexed (now mem) (now heads) (now links) ⌝ }
     ensures { λ r. ⌜ r ≡ verdict-in-rows (rows-of (now (mem .entry))) (judge-notice (view (now (mem .entry))) number (news-said news)) ⌝ }
 {
     let last = mem[books::LAST];
@@ -367,7 +378,7 @@ fn notice_verdict(mem: &[u64], number: u64, news: News) -> Verdict
     if number > last + 1 {
         return reply(18);
     }
-    let ruling = rulings::news_ruling(mem, news);
+    let ruling = rulings::news_ruling(mem, heads, links, news);
     let deed = ruling.deed;
     answer(b'K', b'A', ruling.number, 0, Edit::Taken { deed })
 }
@@ -391,36 +402,47 @@ fn key_of(line: &[u8], mpid: Place, name: Place) -> Key
 }
 
 // A request judged: 2 before O, and after it by its key and what it asks for.
-fn judge_request(mem: &[u64], line: &[u8], mpid: Place, name: Place, deal: Deal) -> Verdict
+fn judge_request(
+    mem: &[u64],
+    heads: &[u16],
+    links: &[u16],
+    line: &[u8],
+    mpid: Place,
+    name: Place,
+    deal: Deal,
+) -> Verdict
     requires { ⌜ Valid (now mem) ⌝ }
     requires { ⌜ Short (now line) mpid name ⌝ }
     requires { ⌜ Sided deal ⌝ }
     requires { ⌜ SmallDeal deal ⌝ }
+    requires { ⌜ Indexed (now mem) (now heads) (now links) ⌝ }
     ensures { λ r. ⌜ r ≡ verdict-in-rows (rows-of (now (mem .entry))) (judge (view (now (mem .entry))) (ask (record { key = key-of (now (line .entry)) mpid name; deal = deal-said deal }))) ⌝ }
 {
     if mem[books::OPENED] == 0 {
         return reply(2);
     }
-    request_verdict(mem, key_of(line, mpid, name), deal)
+    request_verdict(mem, heads, links, key_of(line, mpid, name), deal)
 }
 
 // A notice judged: 2 before O, and after it by its number and what it tells.
-fn judge_notice(mem: &[u64], number: u64, news: News) -> Verdict
+fn judge_notice(mem: &[u64], heads: &[u16], links: &[u16], number: u64, news: News) -> Verdict
     requires { ⌜ Valid (now mem) ⌝ }
     requires { ⌜ SmallNews news ⌝ }
+    requires { ⌜ Indexed (now mem) (now heads) (now links) ⌝ }
     ensures { λ r. ⌜ r ≡ verdict-in-rows (rows-of (now (mem .entry))) (judge (view (now (mem .entry))) (tell number (news-said news))) ⌝ }
 {
     if mem[books::OPENED] == 0 {
         return reply(2);
     }
-    notice_verdict(mem, number, news)
+    notice_verdict(mem, heads, links, number, news)
 }
 
 // The verdict on a record that is read from the line: 1 where it is broken, and else as its kind is judged.
 // It is for `calls::record` alone, which has tried the words and read the line before, and is not offered to a host.
-pub fn judge(mem: &[u64], line: &[u8], rec: Reading) -> Verdict
+pub fn judge(mem: &[u64], heads: &[u16], links: &[u16], line: &[u8], rec: Reading) -> Verdict
     requires { ⌜ Valid (now mem) ⌝ }
     requires { ⌜ InForm (now line) rec ⌝ }
+    requires { ⌜ Indexed (now mem) (now heads) (now links) ⌝ }
     ensures { λ r. ⌜ r ≡ verdict-in-rows (rows-of (now (mem .entry))) (judge (view (now (mem .entry))) (record-of (now (line .entry)) rec)) ⌝ }
 {
     match rec {
@@ -458,6 +480,8 @@ pub fn judge(mem: &[u64], line: &[u8], rec: Reading) -> Verdict
             price,
         } => judge_request(
             mem,
+            heads,
+            links,
             line,
             mpid,
             name,
@@ -476,6 +500,8 @@ pub fn judge(mem: &[u64], line: &[u8], rec: Reading) -> Verdict
             price,
         } => judge_request(
             mem,
+            heads,
+            links,
             line,
             mpid,
             name,
@@ -487,6 +513,8 @@ pub fn judge(mem: &[u64], line: &[u8], rec: Reading) -> Verdict
         ),
         Reading::Cancel { name, mpid, target } => judge_request(
             mem,
+            heads,
+            links,
             line,
             mpid,
             name,
@@ -494,8 +522,24 @@ pub fn judge(mem: &[u64], line: &[u8], rec: Reading) -> Verdict
                 target: packing::pack_identifier(line, target),
             },
         ),
-        Reading::Block { name, mpid } => judge_request(mem, line, mpid, name, Deal::Block),
-        Reading::Unblock { name, mpid } => judge_request(mem, line, mpid, name, Deal::Unblock),
+        Reading::Block { name, mpid } => judge_request(
+            mem,
+            heads,
+            links,
+            line,
+            mpid,
+            name,
+            Deal::Block,
+        ),
+        Reading::Unblock { name, mpid } => judge_request(
+            mem,
+            heads,
+            links,
+            line,
+            mpid,
+            name,
+            Deal::Unblock,
+        ),
         Reading::Quote {
             number,
             symbol,
@@ -503,6 +547,8 @@ pub fn judge(mem: &[u64], line: &[u8], rec: Reading) -> Verdict
             offer,
         } => judge_notice(
             mem,
+            heads,
+            links,
             number,
             News::Quote {
                 sym: symbol,
@@ -518,6 +564,8 @@ pub fn judge(mem: &[u64], line: &[u8], rec: Reading) -> Verdict
             price,
         } => judge_notice(
             mem,
+            heads,
+            links,
             number,
             News::Fill {
                 target: key_of(line, mpid, target),
@@ -532,6 +580,8 @@ pub fn judge(mem: &[u64], line: &[u8], rec: Reading) -> Verdict
             size,
         } => judge_notice(
             mem,
+            heads,
+            links,
             number,
             News::Reduction {
                 target: key_of(line, mpid, target),
@@ -544,6 +594,8 @@ pub fn judge(mem: &[u64], line: &[u8], rec: Reading) -> Verdict
             target,
         } => judge_notice(
             mem,
+            heads,
+            links,
             number,
             News::CancelRefused {
                 target: key_of(line, mpid, target),

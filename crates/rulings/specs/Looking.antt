@@ -9,13 +9,13 @@ use native.Mathlib.Decide.{decLt}
 use lib.Dec.{ltb, eqb}
 use borrow.Author.Tests.{ltb-true, ltb-false, lt-ltb, le-ltb, eqb-true, eqb-false}
 use Rattle.laws.specs.Tests.{on, two, first-fails, second-fails}
-use Rattle.laws.specs.Tables.{look, Apart, Distinct}
-use Rattle.laws.specs.Numbered.{numbered, Least, least-is, least-at, least-none, find-those, numbered-distinct, map-those}
+use Rattle.laws.specs.Tables.{look}
+use Rattle.laws.specs.Numbered.{apart, apart-each, Least, least-is, least-at, least-none, find-those}
 use Rattle.laws.specs.Rows.{Sheet}
 use Rattle.rulebook.specs.Names.{Mpid, Key, same-mpid, same-key, key-exact}
-use Rattle.rulebook.specs.Kept.{Asked, by-mpid, by-id, by-key, by-request}
+use Rattle.rulebook.specs.Kept.{by-mpid, by-id, by-key}
 use Rattle.books.specs.Layout.{groups-at, symbols-at, places-at}
-use Rattle.books.specs.View.{head-in, group-of, symbol-of, asked-of, opens-of, order-of, view, rows-of, books-in}
+use Rattle.books.specs.View.{head-in, group-of, symbol-of, same-place, opens-of, order-of, view, rows-of, books-in}
 use Rattle.books.specs.Writing.{group-index, symbol-index, order-index}
 use Rattle.store.specs.Finding.{key-at, place-index, found-place}
 use Rattle.store.specs.declared.Found.{Found}
@@ -86,14 +86,14 @@ module _ (S : Sheet) (room : ℕ) (k : Key) where
       sym (least-at holds np i (w .0) (λ j lt. second-fails (opens-of S j) (l .before j (omega (arith, w .1)))) (two o (subst (λ i. has-key i ≡ true) (sym (w .1)) (l .here (omega (arith, w))))))
 
   -- a place that is no passed N
-  pub order-closed : Apart by-request (numbered (asked-of S) np) → (i : ℕ) → At i ≡ found-place S room k → opens-of S i ≡ false → np ≡ order-index S k
-  order-closed apart i e o = let w = found-here i e in let l = first-place in
+  pub order-closed : apart (same-place S) np ≡ true → (i : ℕ) → At i ≡ found-place S room k → opens-of S i ≡ false → np ≡ order-index S k
+  order-closed alone i e o = let w = found-here i e in let l = first-place in
       order-none (λ j lt. elim (decLt j i) [
         | yes p ↦ second-fails (opens-of S j) (l .before j (omega (arith, w .1)))
         | no n ↦ on (λ b. eqb i j ≡ b → holds j ≡ false) (eqb i j)
             (λ z q. first-fails (has-key j) (subst (λ j. opens-of S j ≡ false) (eqb-true i j q) o))
             (λ z q. second-fails (opens-of S j) (subst (λ k. same-key k (key-at S j) ≡ false) (sym (key-exact .only k (key-at S i) (subst (λ i. has-key i ≡ true) (sym (w .1)) (l .here (omega (arith, w))))))
-            (numbered-distinct same-key (λ i. key-at S i) np (subst (Distinct same-key) (map-those (λ (a : Asked). a .request .key) (λ i. true) (asked-of S) np) apart) i j (omega (arith, n, eqb-false i j q)) lt))) refl
+            (apart-each (same-place S) np alone i j (omega (arith, n, eqb-false i j q)) lt))) refl
       ])
 
   pub order-free : (j : ℕ) → Free j ≡ found-place S room k → np ≡ order-index S k

@@ -13,6 +13,7 @@ ghost use Rattle.books.specs.Writing.{group-index, symbol-index, order-index};
 ghost use Rattle.books.specs.Rules.{Valid};
 ghost use Rattle.books.specs.Refining.{Counted};
 ghost use Rattle.store.specs.Finding.{mpid-word, named-by};
+ghost use Rattle.store.specs.Indexing.{Indexed};
 ghost use Rattle.checks.specs.Saying.{figures-said, tally-said};
 ghost use Rattle.rulings.specs.Counting.{exchanged, paid, value-said};
 ghost use Rattle.checks.specs.Trying.{Measurable};
@@ -81,12 +82,13 @@ fn find_symbol(mem: &[u64], id: u64) -> usize
 }
 
 // The place of the order with a key, or how many places are taken. No other place has the key of a passed N.
-fn find_order(mem: &[u64], key: Key) -> usize
+fn find_order(mem: &[u64], heads: &[u16], links: &[u16], key: Key) -> usize
     requires { ⌜ Valid (now mem) ⌝ }
+    requires { ⌜ Indexed (now mem) (now heads) (now links) ⌝ }
     ensures { λ r. ⌜ r ≡ order-index (rows-of (now (mem .entry))) (named-by key) ⌝ }
 {
     let taken = mem[books::PLACES_TAKEN] as usize;
-    match store::find_place(mem, key) {
+    match store::find_place(mem, heads, links, key) {
         Found::At(i) => {
             if rules::opens(mem, store::request_at(mem, i)) {
                 return i;
@@ -425,12 +427,21 @@ fn block_ruling(mem: &[u64], group: usize, key: Key, blocked: bool) -> Ruling
 }
 
 // An M judged: 9, or as its target stands.
-fn change_ruling(mem: &[u64], group: usize, target: Key, size: u64, price: u64) -> Ruling
+fn change_ruling(
+    mem: &[u64],
+    heads: &[u16],
+    links: &[u16],
+    group: usize,
+    target: Key,
+    size: u64,
+    price: u64,
+) -> Ruling
     requires { ⌜ Desk (now mem) (mpid-word (target .owner)) group ⌝ }
     requires { ⌜ Small size price ⌝ }
+    requires { ⌜ Indexed (now mem) (now heads) (now links) ⌝ }
     ensures { λ r. ⌜ r ≡ ruling-in-rows (rows-of (now (mem .entry))) (found 9 (look by-key (named-by target) (view (now (mem .entry)) .ledger .orders)) (change-ruling (view (now (mem .entry)) .ledger) (group-of (rows-of (now (mem .entry))) group) size price)) ⌝ }
 {
-    let i = find_order(mem, target);
+    let i = find_order(mem, heads, links, target);
     if i >= mem[books::PLACES_TAKEN] as usize {
         return hold(9);
     }
@@ -438,11 +449,12 @@ fn change_ruling(mem: &[u64], group: usize, target: Key, size: u64, price: u64) 
 }
 
 // A C judged: 9, or as its target stands.
-fn cancel_ruling(mem: &[u64], group: usize, target: Key) -> Ruling
+fn cancel_ruling(mem: &[u64], heads: &[u16], links: &[u16], group: usize, target: Key) -> Ruling
     requires { ⌜ Desk (now mem) (mpid-word (target .owner)) group ⌝ }
+    requires { ⌜ Indexed (now mem) (now heads) (now links) ⌝ }
     ensures { λ r. ⌜ r ≡ ruling-in-rows (rows-of (now (mem .entry))) (found 9 (look by-key (named-by target) (view (now (mem .entry)) .ledger .orders)) cancel-ruling) ⌝ }
 {
-    let i = find_order(mem, target);
+    let i = find_order(mem, heads, links, target);
     if i >= mem[books::PLACES_TAKEN] as usize {
         return hold(9);
     }
@@ -450,9 +462,17 @@ fn cancel_ruling(mem: &[u64], group: usize, target: Key) -> Ruling
 }
 
 // A request judged that is past the door of its desk, which is the group.
-pub fn deal_ruling(mem: &[u64], group: usize, key: Key, deal: Deal) -> Ruling
+pub fn deal_ruling(
+    mem: &[u64],
+    heads: &[u16],
+    links: &[u16],
+    group: usize,
+    key: Key,
+    deal: Deal,
+) -> Ruling
     requires { ⌜ Desk (now mem) (mpid-word (key .owner)) group ⌝ }
     requires { ⌜ SmallDeal deal ⌝ }
+    requires { ⌜ Indexed (now mem) (now heads) (now links) ⌝ }
     ensures { λ r. ⌜ r ≡ ruling-in-rows (rows-of (now (mem .entry))) (deal-ruling (view (now (mem .entry)) .ledger) (group-of (rows-of (now (mem .entry))) group) (named-by key) (deal-said deal)) ⌝ }
 {
     match deal {
@@ -468,6 +488,8 @@ pub fn deal_ruling(mem: &[u64], group: usize, key: Key, deal: Deal) -> Ruling
             price,
         } => change_ruling(
             mem,
+            heads,
+            links,
             group,
             Key {
                 owner: key.owner,
@@ -478,6 +500,8 @@ pub fn deal_ruling(mem: &[u64], group: usize, key: Key, deal: Deal) -> Ruling
         ),
         Deal::Cancel { target } => cancel_ruling(
             mem,
+            heads,
+            links,
             group,
             Key {
                 owner: key.owner,
@@ -516,15 +540,16 @@ enum Spot {
 }
 
 // The order with a key and its desk.
-fn find_target(mem: &[u64], target: Key) -> Spot
+fn find_target(mem: &[u64], heads: &[u16], links: &[u16], target: Key) -> Spot
     requires { ⌜ Valid (now mem) ⌝ }
+    requires { ⌜ Indexed (now mem) (now heads) (now links) ⌝ }
     ensures { λ r. ⌜ r ≡ spot-of (rows-of (now (mem .entry))) (named-by target) ⌝ }
 {
     let group = find_group(mem, target.owner);
     if group >= mem[books::GROUPS_LISTED] as usize {
         return Spot::NoDesk;
     }
-    let order = find_order(mem, target);
+    let order = find_order(mem, heads, links, target);
     if order >= mem[books::PLACES_TAKEN] as usize {
         return Spot::NoOrder;
     }
@@ -532,12 +557,20 @@ fn find_target(mem: &[u64], target: Key) -> Spot
 }
 
 // An F judged: 5, 9, or as its target stands.
-fn fill_ruling(mem: &[u64], target: Key, size: u64, price: u64) -> Ruling
+fn fill_ruling(
+    mem: &[u64],
+    heads: &[u16],
+    links: &[u16],
+    target: Key,
+    size: u64,
+    price: u64,
+) -> Ruling
     requires { ⌜ Valid (now mem) ⌝ }
     requires { ⌜ Small size price ⌝ }
+    requires { ⌜ Indexed (now mem) (now heads) (now links) ⌝ }
     ensures { λ r. ⌜ r ≡ ruling-in-rows (rows-of (now (mem .entry))) (at-order (view (now (mem .entry)) .ledger) (named-by target) (fill-ruling (view (now (mem .entry)) .ledger .orders) size price)) ⌝ }
 {
-    match find_target(mem, target) {
+    match find_target(mem, heads, links, target) {
         Spot::NoDesk => hold(5),
         Spot::NoOrder => hold(9),
         Spot::Stands { group, order } => fill_at(mem, group, order, size, price),
@@ -545,12 +578,13 @@ fn fill_ruling(mem: &[u64], target: Key, size: u64, price: u64) -> Ruling
 }
 
 // A D judged: 5, 9, or as its target stands.
-fn reduction_ruling(mem: &[u64], target: Key, size: u64) -> Ruling
+fn reduction_ruling(mem: &[u64], heads: &[u16], links: &[u16], target: Key, size: u64) -> Ruling
     requires { ⌜ Valid (now mem) ⌝ }
     requires { ⌜ size ≤ 1_000_000 ⌝ }
+    requires { ⌜ Indexed (now mem) (now heads) (now links) ⌝ }
     ensures { λ r. ⌜ r ≡ ruling-in-rows (rows-of (now (mem .entry))) (at-order (view (now (mem .entry)) .ledger) (named-by target) (reduction-ruling (view (now (mem .entry)) .ledger .orders) size)) ⌝ }
 {
-    match find_target(mem, target) {
+    match find_target(mem, heads, links, target) {
         Spot::NoDesk => hold(5),
         Spot::NoOrder => hold(9),
         Spot::Stands { group, order } => reduction_at(mem, group, order, size),
@@ -558,11 +592,12 @@ fn reduction_ruling(mem: &[u64], target: Key, size: u64) -> Ruling
 }
 
 // An H judged: 5, 9, or as its target stands.
-fn refused_ruling(mem: &[u64], target: Key) -> Ruling
+fn refused_ruling(mem: &[u64], heads: &[u16], links: &[u16], target: Key) -> Ruling
     requires { ⌜ Valid (now mem) ⌝ }
+    requires { ⌜ Indexed (now mem) (now heads) (now links) ⌝ }
     ensures { λ r. ⌜ r ≡ ruling-in-rows (rows-of (now (mem .entry))) (at-order (view (now (mem .entry)) .ledger) (named-by target) refused-ruling) ⌝ }
 {
-    match find_target(mem, target) {
+    match find_target(mem, heads, links, target) {
         Spot::NoDesk => hold(5),
         Spot::NoOrder => hold(9),
         Spot::Stands { group, order } => refused_at(mem, group, order),
@@ -570,9 +605,10 @@ fn refused_ruling(mem: &[u64], target: Key) -> Ruling
 }
 
 // A notice judged whose number is the next.
-pub fn news_ruling(mem: &[u64], news: News) -> Ruling
+pub fn news_ruling(mem: &[u64], heads: &[u16], links: &[u16], news: News) -> Ruling
     requires { ⌜ Valid (now mem) ⌝ }
     requires { ⌜ SmallNews news ⌝ }
+    requires { ⌜ Indexed (now mem) (now heads) (now links) ⌝ }
     ensures { λ r. ⌜ r ≡ ruling-in-rows (rows-of (now (mem .entry))) (news-ruling (view (now (mem .entry)) .ledger) (news-said news)) ⌝ }
 {
     match news {
@@ -581,8 +617,8 @@ pub fn news_ruling(mem: &[u64], news: News) -> Ruling
             target,
             size,
             price,
-        } => fill_ruling(mem, target, size, price),
-        News::Reduction { target, size } => reduction_ruling(mem, target, size),
-        News::CancelRefused { target } => refused_ruling(mem, target),
+        } => fill_ruling(mem, heads, links, target, size, price),
+        News::Reduction { target, size } => reduction_ruling(mem, heads, links, target, size),
+        News::CancelRefused { target } => refused_ruling(mem, heads, links, target),
     }
 }

@@ -1,6 +1,6 @@
 -- The test of the whole memory as the code makes it, and that it is the test of the state rules.
-use mathlib.Core.Path.{_≡_, refl, sym, _∙_, subst, fun-ext}
-use mathlib.Core.Bool.{and-assoc, Bool, true, false, _&&_, _||_, cond, false≢true}
+use mathlib.Core.Path.{_≡_, refl, sym, _∙_, subst}
+use mathlib.Core.Bool.{Bool, true, false, _&&_, _||_, cond, false≢true}
 use mathlib.Core.Logic.{_⊎_, inl, inr, ⊎-elim}
 use mathlib.Core.List.{List, [], _∷_}
 use Prim.Native.Nat.{ℕ, _+_, _≤_, _<_}
@@ -14,12 +14,13 @@ use Rattle.laws.specs.Tables.{_also_}
 use Rattle.laws.specs.Numbered.{every, every-each, every-yes, every-no, apart, least, least-is}
 use Rattle.rulebook.specs.Names.{same-mpid, mpid-exact}
 use Rattle.rulebook.specs.Lines.{ceiling, Fits, mpid}
-use Rattle.books.specs.Layout.{order-start, symbols, base-of, width-of, total-cells, orders, least-words, room-of, groups, keys, requests, owner-at, name-at, name-middle-at, name-tail-at, symbol-at, opened-at, groups-at, symbols-at, places-at, traded-buys-at, open-buys-at, open-sells-at}
-use Rattle.books.specs.View.{flag, mpid-in, head-in, asked-of, opens-of, rows-of, same-place}
+use Rattle.books.specs.Layout.{order-start, symbols, base-of, width-of, total-cells, orders, least-words, room-of, groups, keys, requests, symbol-at, opened-at, groups-at, symbols-at, places-at, traded-buys-at, open-buys-at, open-sells-at}
+use Rattle.books.specs.View.{flag, mpid-in, head-in, asked-of, opens-of, rows-of}
 use Rattle.books.specs.Writing.{group-index, symbol-index}
 use Rattle.packing.specs.Exactly.{mpid-exactly}
 use Rattle.books.specs.Refining.{Counted, counted}
 use Rattle.chains.specs.Words.{same-row}
+use Rattle.store.specs.Indexing.{places-same}
 use Rattle.rules.specs.Testing.{head-fits, request-fits, desk-listed, symbol-listed, sums-are, state-ok}
 use Rattle.rules.specs.Meaning.{holding, held}
 use Rattle.rules.specs.Passing.{words-within, word-at, word-within, group-start, totals-ok, head-ok, group-ok, symbol-ok, figures-ok}
@@ -64,14 +65,6 @@ desks-same m = refl
 pub ids-same : (m : List ℕ) → same-row m (base-of symbols) (width-of symbols) 1 ≡ same-id m
 unfolding same-row every
 ids-same m = refl
-
-four : (a b c d : Bool) → (((a && b) && c) && d) ≡ (a && (b && (c && d)))
-four a b c d = and-assoc (a && b) c d ∙ and-assoc a b (c && d)
-
-pub places-same : (m : List ℕ) → same-row m (base-of keys) (width-of keys) (width-of keys) ≡ same-place (rows-of m)
-unfolding same-row every
-places-same m = let same : ℕ → ℕ → ℕ → Bool = λ k i j. eqb (rows-of m keys i k) (rows-of m keys j k) in
-    fun-ext (λ i. fun-ext (λ j. four (same owner-at i j) (same name-at i j) (same name-middle-at i j) (same name-tail-at i j)))
 
 -- ── the head ──
 -- a rule of each, or open

@@ -1,16 +1,15 @@
 -- What the searches of the lent words find.
 use mathlib.Core.Path.{_≡_, refl, sym, _∙_}
-use mathlib.Core.Bool.{true, false, cond}
+use mathlib.Core.Bool.{true, cond}
 use mathlib.Core.Option.{some, none}
 use mathlib.Core.List.{List}
 use Prim.Native.Nat.{ℕ, _+_, _*_, _≤_, _<_}
-use native.Mathlib.Omega.{arith}
 use lib.Dec.{ltb, eqb}
 use lib.ListN.{getD}
 use borrow.Author.Tests.{ltb-true, ltb-false, lt-ltb, le-ltb}
 use Rattle.laws.specs.Tests.{on}
 use Rattle.laws.specs.Tables.{look}
-use Rattle.laws.specs.Numbered.{least, numbered, least-at, least-none, find-those}
+use Rattle.laws.specs.Numbered.{least, numbered, find-those}
 use Rattle.laws.specs.Rows.{Sheet}
 use Rattle.rulebook.specs.Names.{Mpid, Key, same-key}
 use Rattle.rulebook.specs.Kept.{by-request}
@@ -51,21 +50,21 @@ place-index S k = least (λ i. same-key k (key-at S i)) (head-in S places-at)
 unfoldable pub found-place : Sheet → ℕ → Key → Found
 found-place S room k = let n = head-in S places-at in cond (ltb (place-index S k) n) (At (place-index S k)) (cond (ltb n room) (Free n) Full)
 
--- what the search has seen when it ends, and what it then answers
-module _ (S : Sheet) (room : ℕ) (k : Key) (i : ℕ) (before : (j : ℕ) → j < i → same-key k (key-at S j) ≡ false) where
-  pub found-at : i < head-in S places-at → same-key k (key-at S i) ≡ true → At i ≡ found-place S room k
-  unfolding found-place place-index
-  found-at lt e = let q = least-at (λ i. same-key k (key-at S i)) (head-in S places-at) i lt before e in sym (rw (q, lt-ltb i (head-in S places-at) lt) refl)
+-- what the search answers, by the place that it comes to
+module _ (S : Sheet) (room : ℕ) (k : Key) {i : ℕ} (e : i ≡ place-index S k) where
+  pub found-at : i < head-in S places-at → At i ≡ found-place S room k
+  unfolding found-place
+  found-at lt = sym (rw (← e, lt-ltb i (head-in S places-at) lt) refl)
 
-  none-found : i ≡ head-in S places-at → found-place S room k ≡ cond (ltb (head-in S places-at) room) (Free (head-in S places-at)) Full
-  unfolding found-place place-index
-  none-found e = let q = least-none (λ i. same-key k (key-at S i)) (head-in S places-at) (λ j lt. before j (omega arith)) in rw (q, le-ltb (head-in S places-at) (head-in S places-at) (omega arith)) refl
+  none-found : head-in S places-at ≤ i → found-place S room k ≡ cond (ltb (head-in S places-at) room) (Free (head-in S places-at)) Full
+  unfolding found-place
+  none-found le = rw (← e, le-ltb i (head-in S places-at) le) refl
 
-  pub found-free : i ≡ head-in S places-at → i < room → Free i ≡ found-place S room k
-  found-free e lt = rw e (sym (none-found e ∙ rw (lt-ltb (head-in S places-at) room (omega arith)) refl))
+  pub found-free : head-in S places-at ≤ i → head-in S places-at < room → Free (head-in S places-at) ≡ found-place S room k
+  found-free le lt = sym (none-found le ∙ rw (lt-ltb (head-in S places-at) room lt) refl)
 
-  pub found-full : i ≡ head-in S places-at → room ≤ i → Full ≡ found-place S room k
-  found-full e le = sym (none-found e ∙ rw (le-ltb (head-in S places-at) room (omega arith)) refl)
+  pub found-full : head-in S places-at ≤ i → room ≤ head-in S places-at → Full ≡ found-place S room k
+  found-full le full = sym (none-found le ∙ rw (le-ltb (head-in S places-at) room full) refl)
 
 -- THEOREM. What the search answers is what the rulebook looks up by the request's key, and whether a place is free
 pub found-cases : (S : Sheet) (room : ℕ) (k : Key) (P : Found → Type 0) → let n = head-in S places-at in let asked = numbered (asked-of S) n in

@@ -1,28 +1,21 @@
 -- `chains::hash_at` meets its contract: the words that are done are mixed.
 use mathlib.Core.Path.{_≡_, refl, ap₂, sym, _∙_}
-use Prim.Native.Nat.{_+_, _-_, _≤_}
+use Prim.Native.Nat.{_-_, _≤_}
 use native.Mathlib.Omega.{arith}
 use native.Mathlib.Numerals.{add-one}
-use lib.ListN.{length}
 use borrow.Author.Needs.{needs}
-use Rattle.chains.specs.Words.{row-room, mixed, blend, blend-none, blend-more, hash-row}
+use Rattle.chains.specs.Words.{mixed, blend, blend-none, blend-more, hash-words}
 use Rattle.chains.proofs.hash_at.Statement.{statement}
 use Rattle.chains.proofs.hash_at.Tie as tie
 
 abbrev Inv-loop : tie.InvT-loop
-Inv-loop mem at width words i b h₀ done₀ h done = (done ≤ words) × (b + words ≤ length mem) × (h ≡ blend mem b done)
+Inv-loop mem b words h₀ done₀ h done = (done ≤ words) × (h ≡ blend mem b done)
 
 abbrev μ-loop : tie.MeasureT-loop
-μ-loop mem at width words i b h₀ done₀ h done = words - done
-
-mul-b : tie.Need-mul-b Inv-loop μ-loop
-mul-b c = record { fits = omega (arith, row-room (c .before .pre) (c .before .args .i) (search needs)) }
-
-add-b : tie.Need-add-b Inv-loop μ-loop
-add-b c = record { fits = omega (arith, row-room (c .before .pre) (c .before .args .i) (search needs)) }
+μ-loop mem b words h₀ done₀ h done = words - done
 
 loop-holds : tie.Need-loop-holds Inv-loop μ-loop
-loop-holds c = (search needs, row-room (c .before .pre) (c .before .args .i) (search needs), sym (blend-none _ _))
+loop-holds c = (search needs, sym (blend-none _ _))
 
 add-mix : tie.Need-add-mix Inv-loop μ-loop
 add-mix c = search needs
@@ -43,16 +36,16 @@ loop-less : tie.Need-loop-less Inv-loop μ-loop
 loop-less c = search needs
 
 loop-again : tie.Need-loop-again Inv-loop μ-loop
-loop-again c = (search needs, c .before .before .before .loop .inv .1, rw (add-one, blend-more) (c .mix .ensures ∙ ap₂ mixed (c .before .before .before .loop .inv .2) refl))
+loop-again c = (search needs, rw (add-one, blend-more) (c .mix .ensures ∙ ap₂ mixed (c .before .before .before .loop .inv .1) refl))
 
 mix-requires-2 : tie.Need-mix-requires-2 Inv-loop μ-loop
 mix-requires-2 c κs = search needs
 
 returns : tie.Need-returns Inv-loop μ-loop
-unfolding hash-row
+unfolding hash-words
 returns c =
     let l = c .before .before .loop in
-    let e : l .done ≡ c .before .before .before .before .args .words = omega arith in simp (c .mix2 .ensures, l .inv .2, e)
+    let e : l .done ≡ c .before .before .before .before .args .words = omega arith in simp (c .mix2 .ensures, l .inv .1, e)
 
 pub hash-at-spec : {M : Type 1} → statement M
 hash-at-spec =
@@ -60,8 +53,6 @@ hash-at-spec =
     (tie.spec
     Inv-loop
     μ-loop
-    mul-b
-    add-b
     loop-holds
     add-mix
     mul-mix

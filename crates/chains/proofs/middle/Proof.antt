@@ -6,14 +6,14 @@ use Rattle.chains.specs.Chain.{clear}
 use Rattle.chains.proofs.middle.Statement.{statement}
 use Rattle.chains.proofs.middle.Tie as tie
 
-slice-aggregate-distinct-in : tie.Need-slice-aggregate-distinct-in
-slice-aggregate-distinct-in c = search needs
+slice-aggregate-chain-rows : tie.Need-slice-aggregate-chain-rows
+slice-aggregate-chain-rows c = search needs
 
-slice-aggregate-distinct-in-2 : tie.Need-slice-aggregate-distinct-in-2
-slice-aggregate-distinct-in-2 c = search needs
+slice-aggregate-chain-rows-2 : tie.Need-slice-aggregate-chain-rows-2
+slice-aggregate-chain-rows-2 c = search needs
 
-distinct-in-requires : tie.Need-distinct-in-requires
-distinct-in-requires c κs = (c .before .before .before .pre .0, clear 16384 8192 _ (lit< tt) (search needs))
+chain-rows-requires : tie.Need-chain-rows-requires
+chain-rows-requires c κs = (c .before .before .before .pre .0, clear 16384 8192 _ (lit< tt) (search needs))
 
 returns : tie.Need-returns
 returns c = search needs
@@ -22,7 +22,7 @@ pub middle-spec : {M : Type 1} → statement M
 middle-spec =
     tie.close
     (tie.spec
-    slice-aggregate-distinct-in
-    slice-aggregate-distinct-in-2
-    distinct-in-requires
+    slice-aggregate-chain-rows
+    slice-aggregate-chain-rows-2
+    chain-rows-requires
     returns)

@@ -3,36 +3,23 @@ use mathlib.Core.Path.{_≡_, sym}
 use mathlib.Core.Bool.{true}
 use Prim.Native.Nat.{ℕ, _+_, _-_, _≤_, _<_}
 use native.Mathlib.Omega.{arith}
-use lib.ListN.{length, getD}
+use lib.ListN.{getD}
 use lib.Dec.{eqb}
 use borrow.Author.Needs.{needs}
 use borrow.Author.Tests.{eq-eqb, ne-eqb}
 use borrow.Author.Count.{below-none, below-more}
 use Rattle.laws.specs.Numbered.{every-yes, every-no}
-use Rattle.chains.specs.Words.{same-row, row-room}
 use Rattle.chains.proofs.same.Statement.{statement}
 use Rattle.chains.proofs.same.Tie as tie
 
 abbrev Inv-loop : tie.InvT-loop
-Inv-loop mem at width words i j a b k₀ k = (k ≤ words) × (a + words ≤ length mem) × (b + words ≤ length mem) × ((l : ℕ) → l < k → eqb (getD mem (a + l) 0) (getD mem (b + l) 0) ≡ true)
+Inv-loop mem a key b words k₀ k = (k ≤ words) × ((l : ℕ) → l < k → eqb (getD mem (a + l) 0) (getD key (b + l) 0) ≡ true)
 
 abbrev μ-loop : tie.MeasureT-loop
-μ-loop mem at width words i j a b k₀ k = words - k
-
-mul-a : tie.Need-mul-a Inv-loop μ-loop
-mul-a c = record { fits = omega (arith, row-room (c .pre .0) (c .args .i) (search needs)) }
-
-add-a : tie.Need-add-a Inv-loop μ-loop
-add-a c = record { fits = omega (arith, row-room (c .pre .0) (c .args .i) (search needs)) }
-
-mul-b : tie.Need-mul-b Inv-loop μ-loop
-mul-b c = record { fits = omega (arith, row-room (c .pre .0) (c .args .j) (search needs)) }
-
-add-b : tie.Need-add-b Inv-loop μ-loop
-add-b c = record { fits = omega (arith, row-room (c .pre .0) (c .args .j) (search needs)) }
+μ-loop mem a key b words k₀ k = words - k
 
 loop-holds : tie.Need-loop-holds Inv-loop μ-loop
-loop-holds c = (search needs, row-room (c .pre .0) (c .args .i) (search needs), row-room (c .pre .0) (c .args .j) (search needs), below-none _)
+loop-holds c = (search needs, below-none _)
 
 add-if1 : tie.Need-add-if1 Inv-loop μ-loop
 add-if1 c = search needs
@@ -53,7 +40,6 @@ shared-slice-read-if1-2 : tie.Need-shared-slice-read-if1-2 Inv-loop μ-loop
 shared-slice-read-if1-2 c = search needs
 
 returns : tie.Need-returns Inv-loop μ-loop
-unfolding same-row
 returns c = sym (every-no _ _ _ (search needs) (ne-eqb _ _ (c .if1 .taken)))
 
 add-k : tie.Need-add-k Inv-loop μ-loop
@@ -63,11 +49,10 @@ loop-less : tie.Need-loop-less Inv-loop μ-loop
 loop-less c = search needs
 
 loop-again : tie.Need-loop-again Inv-loop μ-loop
-loop-again c = (search needs, c .before .before .before .before .loop .inv .1, c .before .before .before .before .loop .inv .2, below-more _ _ (c .before .before .before .before .loop .inv .3) (eq-eqb _ _ (c .if1 .left)))
+loop-again c = (search needs, below-more _ _ (c .before .before .before .before .loop .inv .1) (eq-eqb _ _ (c .if1 .left)))
 
 returns-2 : tie.Need-returns-2 Inv-loop μ-loop
-unfolding same-row
-returns-2 c = sym (every-yes _ _ (λ l lt. c .before .loop .inv .3 l (omega arith)))
+returns-2 c = sym (every-yes _ _ (λ l lt. c .before .loop .inv .1 l (omega arith)))
 
 pub same-spec : {M : Type 1} → statement M
 same-spec =
@@ -75,10 +60,6 @@ same-spec =
     (tie.spec
     Inv-loop
     μ-loop
-    mul-a
-    add-a
-    mul-b
-    add-b
     loop-holds
     add-if1
     mul-if1

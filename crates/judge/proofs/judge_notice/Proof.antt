@@ -17,13 +17,13 @@ reply-requires : tie.Need-reply-requires
 reply-requires c κs = search needs
 
 returns : tie.Need-returns
-returns c = let m = c .before .before .before .before .args .mem .now in c .reply .ensures (rows-of m) ∙ ap (verdict-in-rows (rows-of m)) (sym (early-tell m (c .before .before .before .before .args .number) (news-said (c .before .before .before .before .args .news)) (omega (arith, c .before .if1 .taken))))
+returns c = let m = c .before .before .before .before .before .before .args .mem .now in c .reply .ensures (rows-of m) ∙ ap (verdict-in-rows (rows-of m)) (sym (early-tell m (c .before .before .before .before .before .before .args .number) (news-said (c .before .before .before .before .before .before .args .news)) (omega (arith, c .before .if1 .taken))))
 
 notice-verdict-requires : tie.Need-notice-verdict-requires
 notice-verdict-requires c κs = search needs
 
 returns-2 : tie.Need-returns-2
-returns-2 c = let m = c .before .before .before .before .args .mem .now in c .notice-verdict .ensures ∙ ap (verdict-in-rows (rows-of m)) (sym (judge-tell (view m) (c .before .before .before .before .args .number) (news-said (c .before .before .before .before .args .news)) (is-opened m (omega (arith, c .before .if1 .left)))))
+returns-2 c = let m = c .before .before .before .before .before .before .args .mem .now in c .notice-verdict .ensures ∙ ap (verdict-in-rows (rows-of m)) (sym (judge-tell (view m) (c .before .before .before .before .before .before .args .number) (news-said (c .before .before .before .before .before .before .args .news)) (is-opened m (omega (arith, c .before .if1 .left)))))
 
 pub judge-notice-spec : {M : Type 1} → statement M
 judge-notice-spec =

@@ -19,7 +19,7 @@ reply-requires : tie.Need-reply-requires
 reply-requires c κs = search needs
 
 returns : tie.Need-returns
-returns c = let m = c .before .before .before .before .before .args .mem .now in c .reply .ensures (rows-of m) ∙ ap (verdict-in-rows (rows-of m)) (sym (early-ask m _ (omega (arith, c .before .if1 .taken))))
+returns c = let m = c .before .before .before .before .before .before .before .args .mem .now in c .reply .ensures (rows-of m) ∙ ap (verdict-in-rows (rows-of m)) (sym (early-ask m _ (omega (arith, c .before .if1 .taken))))
 
 key-of-requires : tie.Need-key-of-requires
 key-of-requires c κs = search needs
@@ -28,7 +28,7 @@ request-verdict-requires : tie.Need-request-verdict-requires
 request-verdict-requires c κs = search needs
 
 returns-2 : tie.Need-returns-2
-returns-2 c = let m = c .before .before .before .before .before .before .args .mem .now in c .request-verdict .ensures ∙ ap (λ (k : Key). verdict-in-rows (rows-of m) (judge-request (view m) (record { key = k; deal = deal-said (c .before .before .before .before .before .before .args .deal) }))) (c .before .key-of .ensures) ∙ ap (verdict-in-rows (rows-of m)) (sym (judge-ask (view m) _ (is-opened m (omega (arith, c .before .before .if1 .left)))))
+returns-2 c = let m = c .before .before .before .before .before .before .before .before .args .mem .now in c .request-verdict .ensures ∙ ap (λ (k : Key). verdict-in-rows (rows-of m) (judge-request (view m) (record { key = k; deal = deal-said (c .before .before .before .before .before .before .before .before .args .deal) }))) (c .before .key-of .ensures) ∙ ap (verdict-in-rows (rows-of m)) (sym (judge-ask (view m) _ (is-opened m (omega (arith, c .before .before .if1 .left)))))
 
 pub judge-request-spec : {M : Type 1} → statement M
 judge-request-spec =

@@ -11,13 +11,13 @@ enum-known-deal : tie.Need-enum-known-deal
 enum-known-deal c = search needs
 
 new-ruling-requires : tie.Need-new-ruling-requires
-new-ruling-requires c κs = (c .before .before .before .before .pre .0, subst SmallDeal (c .before .deal .given .1) (c .before .before .before .before .pre .1))
+new-ruling-requires c κs = (c .before .before .before .before .before .before .pre .0, subst SmallDeal (c .before .deal .given .1) (c .before .before .before .before .before .before .pre .1 .0))
 
 enum-known-deal-2 : tie.Need-enum-known-deal-2
 enum-known-deal-2 c = search needs
 
 change-ruling-requires : tie.Need-change-ruling-requires
-change-ruling-requires c κs = (c .before .before .before .before .pre .0, subst SmallDeal (c .before .deal2 .given .1) (c .before .before .before .before .pre .1))
+change-ruling-requires c κs = (c .before .before .before .before .before .before .pre .0, (subst SmallDeal (c .before .deal2 .given .1) (c .before .before .before .before .before .before .pre .1 .0), c .before .before .before .before .before .before .pre .1 .1))
 
 enum-known-deal-3 : tie.Need-enum-known-deal-3
 enum-known-deal-3 c = search needs

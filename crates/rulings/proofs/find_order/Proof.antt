@@ -3,7 +3,6 @@ use borrow.Author.Needs.{needs}
 use Rattle.rulings.proofs.find_order.Statement.{statement}
 use mathlib.Core.Path.{sym, ap, _∙_}
 use native.Mathlib.Omega.{arith}
-use Rattle.books.specs.View.{books-in}
 use Rattle.books.specs.Judged.{valid-counted}
 use Rattle.books.specs.Layout.{room-of}
 use Rattle.books.specs.View.{rows-of}
@@ -17,19 +16,19 @@ shared-slice-read-taken : tie.Need-shared-slice-read-taken
 shared-slice-read-taken c = search needs
 
 find-place-requires : tie.Need-find-place-requires
-find-place-requires c κs = valid-counted _ (c .before .before .pre)
+find-place-requires c κs = let s = c .before .before .before .before in (valid-counted _ (s .pre .0), s .pre .1)
 
 enum-known-i : tie.Need-enum-known-i
 enum-known-i c = search needs
 
 request-at-requires : tie.Need-request-at-requires
-request-at-requires c κs = let s = c .before .before .before .before .before .before in (valid-counted _ (s .pre), omega (arith, valid-counted _ (s .pre), found-here (rows-of (s .args .mem .now)) (room-of (s .args .mem .now)) (named-by (s .args .key)) _ (sym (c .before .i .given .1) ∙ c .before .before .before .find-place .ensures) .0))
+request-at-requires c κs = let s = c .before .before .before .before .before .before .before .before in (valid-counted _ (s .pre .0), omega (arith, valid-counted _ (s .pre .0), found-here (rows-of (s .args .mem .now)) (room-of (s .args .mem .now)) (named-by (s .args .key)) _ (sym (c .before .i .given .1) ∙ c .before .before .before .find-place .ensures) .0))
 
 opens-requires : tie.Need-opens-requires
-opens-requires c κs = let s = c .before .before .before .before .before .before .before in let m = s .args .mem .now in let v = valid-counted _ (s .pre) in let h = found-here (rows-of m) (room-of m) (named-by (s .args .key)) _ (sym (c .before .before .i .given .1) ∙ c .before .before .before .before .find-place .ensures) .0 in rw (c .request-at .ensures) (record { room = omega (arith, v, h) })
+opens-requires c κs = let s = c .before .before .before .before .before .before .before .before .before in let m = s .args .mem .now in let v = valid-counted _ (s .pre .0) in let h = found-here (rows-of m) (room-of m) (named-by (s .args .key)) _ (sym (c .before .before .i .given .1) ∙ c .before .before .before .before .find-place .ensures) .0 in rw (c .request-at .ensures) (record { room = omega (arith, v, h) })
 
 returns : tie.Need-returns
-returns c = let s = c .before .before .before .before .before .before .before .before .before in let m = s .args .mem .now in order-here (rows-of m) (room-of m) (named-by (s .args .key)) _ (sym (c .before .before .before .before .i .given .1) ∙ c .before .before .before .before .before .before .find-place .ensures) (sym (is-order-is m _) ∙ ap (is-order m) (sym (c .before .before .request-at .ensures)) ∙ sym (c .before .opens .ensures) ∙ c .if1 .taken)
+returns c = let s = c .before .before .before .before .before .before .before .before .before .before .before in let m = s .args .mem .now in order-here (rows-of m) (room-of m) (named-by (s .args .key)) _ (sym (c .before .before .before .before .i .given .1) ∙ c .before .before .before .before .before .before .find-place .ensures) (sym (is-order-is m _) ∙ ap (is-order m) (sym (c .before .before .request-at .ensures)) ∙ sym (c .before .opens .ensures) ∙ c .if1 .taken)
 
 enum-told : tie.Need-enum-told
 enum-told c = search needs
@@ -38,14 +37,13 @@ enum-told-2 : tie.Need-enum-told-2
 enum-told-2 c = search needs
 
 returns-2 : tie.Need-returns-2
-unfolding books-in
-returns-2 c = let s = c .before .before .before .before .before .before .before .before .before in let m = s .args .mem .now in order-closed (rows-of m) (room-of m) (named-by (s .args .key)) (s .pre .sound .asked-apart) _ (sym (c .before .before .before .before .i .given .1) ∙ c .before .before .before .before .before .before .find-place .ensures) (sym (is-order-is m _) ∙ ap (is-order m) (sym (c .before .before .request-at .ensures)) ∙ sym (c .before .opens .ensures) ∙ c .if1 .left)
+returns-2 c = let s = c .before .before .before .before .before .before .before .before .before .before .before in let m = s .args .mem .now in order-closed (rows-of m) (room-of m) (named-by (s .args .key)) (s .pre .1 .keys-apart) _ (sym (c .before .before .before .before .i .given .1) ∙ c .before .before .before .before .before .before .find-place .ensures) (sym (is-order-is m _) ∙ ap (is-order m) (sym (c .before .before .request-at .ensures)) ∙ sym (c .before .opens .ensures) ∙ c .if1 .left)
 
 returns-3 : tie.Need-returns-3
-returns-3 c = let s = c .before .before .before .before .before in order-free (rows-of (s .args .mem .now)) (room-of (s .args .mem .now)) (named-by (s .args .key)) _ (sym (c .enum-told .given .1) ∙ c .before .before .find-place .ensures)
+returns-3 c = let s = c .before .before .before .before .before .before .before in order-free (rows-of (s .args .mem .now)) (room-of (s .args .mem .now)) (named-by (s .args .key)) _ (sym (c .enum-told .given .1) ∙ c .before .before .find-place .ensures)
 
 returns-4 : tie.Need-returns-4
-returns-4 c = let s = c .before .before .before .before .before in order-full (rows-of (s .args .mem .now)) (room-of (s .args .mem .now)) (named-by (s .args .key)) (sym (c .enum-told2 .given .1) ∙ c .before .before .find-place .ensures)
+returns-4 c = let s = c .before .before .before .before .before .before .before in order-full (rows-of (s .args .mem .now)) (room-of (s .args .mem .now)) (named-by (s .args .key)) (sym (c .enum-told2 .given .1) ∙ c .before .before .find-place .ensures)
 
 pub find-order-spec : {M : Type 1} → statement M
 find-order-spec =

@@ -8,7 +8,7 @@ use Rattle.rulings.specs.Rulings.{spot-of}
 use Rattle.rulings.proofs.find_target.Tie as tie
 
 find-group-requires : tie.Need-find-group-requires
-find-group-requires c κs = valid-counted (c .before .args .mem .now) (c .before .pre)
+find-group-requires c κs = valid-counted (c .before .before .before .args .mem .now) (c .before .before .before .pre .0)
 
 shared-slice-read-if1 : tie.Need-shared-slice-read-if1
 shared-slice-read-if1 c = search needs

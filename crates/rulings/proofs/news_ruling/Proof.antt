@@ -10,25 +10,25 @@ enum-known-news : tie.Need-enum-known-news
 enum-known-news c = search needs
 
 quote-ruling-requires : tie.Need-quote-ruling-requires
-quote-ruling-requires c κs = c .before .before .before .before .pre .0
+quote-ruling-requires c κs = c .before .before .before .before .before .before .pre .0
 
 enum-known-news-2 : tie.Need-enum-known-news-2
 enum-known-news-2 c = search needs
 
 fill-ruling-requires : tie.Need-fill-ruling-requires
-fill-ruling-requires c κs = (c .before .before .before .before .pre .0, subst SmallNews (c .before .news2 .given .1) (c .before .before .before .before .pre .1))
+fill-ruling-requires c κs = (c .before .before .before .before .before .before .pre .0, (subst SmallNews (c .before .news2 .given .1) (c .before .before .before .before .before .before .pre .1 .0), c .before .before .before .before .before .before .pre .1 .1))
 
 enum-known-news-3 : tie.Need-enum-known-news-3
 enum-known-news-3 c = search needs
 
 reduction-ruling-requires : tie.Need-reduction-ruling-requires
-reduction-ruling-requires c κs = (c .before .before .before .before .pre .0, subst SmallNews (c .before .news3 .given .1) (c .before .before .before .before .pre .1))
+reduction-ruling-requires c κs = (c .before .before .before .before .before .before .pre .0, (subst SmallNews (c .before .news3 .given .1) (c .before .before .before .before .before .before .pre .1 .0), c .before .before .before .before .before .before .pre .1 .1))
 
 enum-known-news-4 : tie.Need-enum-known-news-4
 enum-known-news-4 c = search needs
 
 refused-ruling-requires : tie.Need-refused-ruling-requires
-refused-ruling-requires c κs = c .before .before .before .before .pre .0
+refused-ruling-requires c κs = (c .before .before .before .before .before .before .pre .0, c .before .before .before .before .before .before .pre .1 .1)
 
 returns : tie.Need-returns
 unfolding news-ruling
