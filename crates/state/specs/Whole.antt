@@ -54,8 +54,15 @@ pub record Tallied (m sums : List ℕ) (r : Bool) : Type 0 where
   pub good : r ≡ true → Sums (rows-of m) sums (head-in (rows-of m) places-at) × (every (fine m) (head-in (rows-of m) places-at) ≡ true)
   pub bad : r ≡ false → Faulty m
 
+-- every rule but that the keys are apart
+unfoldable pub parts-ok : List ℕ → Bool
+parts-ok m = all-hold (leb least-words (length m) ∷ head-ok (room-of m) (head-in (rows-of m)) ∷ listed-ok m ∷ table-ok m ∷ [])
+
+abbrev pub keys-ok : List ℕ → Bool
+keys-ok m = apart (same-row m (base-of keys) (width-of keys) (width-of keys)) (head-in (rows-of m) places-at)
+
 unfoldable pub passes : List ℕ → Bool
-passes m = all-hold (leb least-words (length m) ∷ head-ok (room-of m) (head-in (rows-of m)) ∷ listed-ok m ∷ table-ok m ∷ apart (same-row m (base-of keys) (width-of keys) (width-of keys)) (head-in (rows-of m) places-at) ∷ [])
+passes m = all-hold (parts-ok m ∷ keys-ok m ∷ [])
 
 -- ── rows that begin with the same words ──
 pub desks-same : (m : List ℕ) → same-row m (base-of groups) (width-of groups) 1 ≡ same-desk m
@@ -121,10 +128,11 @@ fine-met m i a b = two a b
 
 -- ── the whole ──
 whole-read : (m : List ℕ) → passes m ≡ true → state-ok m ≡ true
-unfolding passes state-ok head-ok listed-ok table-ok head-fits
+unfolding passes parts-ok state-ok head-ok listed-ok table-ok head-fits
 whole-read m e =
     let S = rows-of m in let h = head-in S in
-    let w = rules-read _ e in
+    let v = rules-read _ e in
+    let w = rules-read _ (v .0) in
     let a = rules-read _ (w .1 .0) in
     let l = rules-read _ (w .1 .1 .0) in
     let t = rules-read _ (w .1 .1 .1 .0) in
@@ -141,7 +149,7 @@ whole-read m e =
       figures-right = every-yes _ (h places-at) (λ i lt. p i lt .1 .order .figures);
       mpids-apart = subst (λ t. apart t (h groups-at) ≡ true) (desks-same m) (l .1 .1 .0);
       ids-apart = subst (λ t. apart t (h symbols-at) ≡ true) (ids-same m) (l .1 .1 .1 .0);
-      keys-apart = subst (λ t. apart t (h places-at) ≡ true) (places-same m) (w .1 .1 .1 .1 .0);
+      keys-apart = subst (λ t. apart t (h places-at) ≡ true) (places-same m) (v .1 .0);
       desks-listed = every-yes _ (h places-at) (λ i lt. p i lt .0);
       symbols-listed = every-yes _ (h places-at) (λ i lt. p i lt .1 .symbol);
       none-early = sym (early-is (h opened-at) (eqb (h places-at) 0)) ∙ a .1 .1 .1 .1 .1 .0;
@@ -155,14 +163,14 @@ whole-read m e =
     one m g i f = let v = fine-read m i f in (v .0, place-read m i (owner-fits m g i (v .0)) (v .1))
 
 whole-met : (m : List ℕ) → state-ok m ≡ true → passes m ≡ true
-unfolding passes state-ok head-ok listed-ok table-ok head-fits
+unfolding passes parts-ok state-ok head-ok listed-ok table-ok head-fits
 whole-met m e =
     let S = rows-of m in let h = head-in S in
     let w = both e in
     let r = holding (room-of m) S (w .1) in
     let f = both (r .head) in
     rules-met _ (
-    w .0
+    rules-met _ (w .0
     also rules-met _ (f .0 also f .1 also r .few-groups also r .few-symbols also r .few-places also early-is (h opened-at) (eqb (h places-at) 0) ∙ r .none-early also tt)
     also rules-met _ (every-yes _ (h groups-at) (λ i lt. group-met m i (record {
       fits-form = every-each _ (h groups-at) (r .groups-fit) i lt;
@@ -177,6 +185,7 @@ whole-met m e =
       symbol = every-each _ (h places-at) (r .symbols-listed) i lt;
     })))
     also r .sums-right also tt)
+    also tt)
     also subst (λ t. apart t (h places-at) ≡ true) (sym (places-same m)) (r .keys-apart)
     also tt
     )
@@ -243,3 +252,8 @@ listed-by m c e =
 pub counted-head : (m : List ℕ) → least-words ≤ length m → head-ok (room-of m) (head-in (rows-of m)) ≡ true → Counted m
 unfolding head-ok
 counted-head m l e = let a = rules-read _ e in counted m l (leb-true _ _ (a .1 .1 .0)) (leb-true _ _ (a .1 .1 .1 .0)) (leb-true _ _ (a .1 .1 .1 .1 .0))
+
+-- what is so tried can be counted on
+pub parts-counted : (m : List ℕ) → parts-ok m ≡ true → Counted m
+unfolding parts-ok
+parts-counted m e = let w = rules-read _ e in counted-head m (leb-true _ _ (w .0)) (w .1 .0)

@@ -15,7 +15,7 @@ ghost use Rattle.rules.specs.Passing.{group-ok, symbol-ok};
 ghost use Rattle.rulebook.specs.Lines.{is-buy};
 ghost use Rattle.fields.specs.Series.{side-of};
 ghost use Rattle.state.specs.Summing.{Sums, Added, Due, Priced, value-at, slot};
-ghost use Rattle.state.specs.Whole.{Listed, Tallied, table-ok, listed-ok};
+ghost use Rattle.state.specs.Whole.{Listed, Tallied, table-ok, listed-ok, parts-ok};
 ghost use Rattle.state.specs.Places.{figures-right, place-ok, desk-at};
 
 // A row's first word.
@@ -309,9 +309,10 @@ fn listed_ok(mem: &[u64]) -> bool
     )
 }
 
-// Whether the lent memory meets every state rule and is long enough for groups and symbols: where not, the answer is 22.
-pub fn state_ok(mem: &[u64]) -> bool
-    ensures { λ r. ⌜ r ≡ state-ok (now (mem .entry)) ⌝ }
+// Whether the lent memory is long enough for groups and symbols, and its head, its lists and its table are in order: every state rule but that
+// no two places have one key.
+pub fn parts_ok(mem: &[u64]) -> bool
+    ensures { λ r. ⌜ r ≡ parts-ok (now (mem .entry)) ⌝ }
 {
     if mem.len() < books::LEAST_WORDS {
         return false;
@@ -322,7 +323,14 @@ pub fn state_ok(mem: &[u64]) -> bool
     if !listed_ok(mem) {
         return false;
     }
-    if !table_ok(mem) {
+    table_ok(mem)
+}
+
+// Whether the lent memory meets every state rule and is long enough for groups and symbols: where not, the answer is 22.
+pub fn state_ok(mem: &[u64]) -> bool
+    ensures { λ r. ⌜ r ≡ state-ok (now (mem .entry)) ⌝ }
+{
+    if !parts_ok(mem) {
         return false;
     }
     chains::rows_apart(
