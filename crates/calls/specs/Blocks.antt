@@ -1,5 +1,5 @@
 -- Document 02, order 4: what a block of lines in one call leaves, as the record call made for one line after the other.
-use mathlib.Core.Bool.{cond}
+use mathlib.Core.Bool.{Bool, cond}
 use mathlib.Core.List.{List, [], _∷_, _++_}
 use Prim.Native.Nat.{ℕ, _+_}
 use lib.Dec.{ltb, eqb}
@@ -33,9 +33,17 @@ one-by-one m [] b = idle 0 m b
 one-by-one m (l ∷ ls) b = let r = recorded m l b in let n = r .said .bytes in
     cond (ltb (length b) 32) (idle 0 m b) (before 1 (length l) (take n (r .buffer)) (one-by-one (r .memory) ls (drop n (r .buffer))))
 
--- "The call tests 21 and 22 once"; "A last part without LF is not taken"
-unfoldable pub blocked : List ℕ → List ℕ → List ℕ → Block
-blocked m text b = let n = first (refusals 32 m b) in cond (eqb n 0) (one-by-one m (whole [] text) b) (idle n m b)
+-- "The call tests 21 and 22 once"
+unfoldable pub asked : List ℕ → List (List ℕ) → List ℕ → Block
+asked m ls b = let n = first (refusals 32 m b) in cond (eqb n 0) (one-by-one m ls b) (idle n m b)
+
+-- "A last part without LF is not taken"
+abbrev pub blocked : List ℕ → List ℕ → List ℕ → Block
+blocked m text b = asked m (whole [] text) b
+
+-- a text as one line, or the lines that end in it
+abbrev pub lines-of : Bool → List ℕ → List (List ℕ)
+lines-of alone text = cond alone (text ∷ []) (whole [] text)
 
 -- what the code answers: 21, 22, or what was taken
 pub record Took : Type 0 where

@@ -10,13 +10,14 @@ use lib.ListN.{length, take, drop, length-append, length-drop, take-append-drop,
 use lib.Seq.{length-take-le, take-all, take-append-seam, drop-append-seam, take-append-add, drop-append-add}
 use borrow.Author.Tests.{lt-ltb, le-ltb}
 use Rattle.laws.specs.Tests.{on}
+use Rattle.fields.specs.Out.{begun}
 use Rattle.books.specs.Writing.{write}
 use Rattle.rules.specs.Testing.{state-ok}
 use Rattle.lines.specs.Splitting.{whole, line-at}
 use Rattle.lines.specs.Places.{step-on, step-none}
 use Rattle.calls.specs.Calling.{bytes-said, verdict-on, answer-to, Recorded, record-left, recorded}
-use Rattle.calls.specs.Keeping.{too-short, state-bad, not-refused, judged-line, state-kept, answer-written}
-use Rattle.calls.specs.Blocks.{Block, idle, before, one-by-one, blocked, took, block-left}
+use Rattle.calls.specs.Keeping.{too-short, state-bad, not-refused, short-buffer, bad-state, judged-line, state-kept, answer-written}
+use Rattle.calls.specs.Blocks.{Block, idle, before, one-by-one, asked, blocked, took, block-left}
 use Rattle.calls.specs.declared.Taken.{Taken}
 
 -- lines taken before lines taken
@@ -115,25 +116,56 @@ module _ (text : List ℕ) (count at end : ℕ) (m b : List ℕ) where
   no-more-lines l q z within = ap (λ ls. before count at (take end b) (one-by-one m ls (drop end b))) (step-none text at (sym (ap length q) ∙ z) .0) ∙ ap (before count at (take end b)) (no-line m (drop end b)) ∙ ended within
 
 -- ── 21 and 22 are tested once ──
-module _ (m text b : List ℕ) where
-  pub block-short : length b < 32 → blocked m text b ≡ idle 21 m b
-  unfolding blocked
+module _ (m : List ℕ) (ls : List (List ℕ)) (b : List ℕ) where
+  pub block-short : length b < 32 → asked m ls b ≡ idle 21 m b
+  unfolding asked
   block-short h = rw (too-short 32 m b h) refl
 
-  pub block-bad : 32 ≤ length b → state-ok m ≡ false → blocked m text b ≡ idle 22 m b
-  unfolding blocked
+  pub block-bad : 32 ≤ length b → state-ok m ≡ false → asked m ls b ≡ idle 22 m b
+  unfolding asked
   block-bad h e = rw (state-bad 32 m b h e) refl
 
-  pub block-judged : 32 ≤ length b → state-ok m ≡ true → blocked m text b ≡ one-by-one m (whole [] text) b
-  unfolding blocked
+  pub block-judged : 32 ≤ length b → state-ok m ≡ true → asked m ls b ≡ one-by-one m ls b
+  unfolding asked
   block-judged h e = rw (not-refused 32 m b h e) refl
 
--- what is not refused has room and a state that meets the rules
-pub block-clear : (m text b : List ℕ) → blocked m text b .number ≡ 0 → (32 ≤ length b) × (state-ok m ≡ true)
-block-clear m text b e = elim (decLt (length b) 32) [
-  | yes h ↦ absurd (omega (arith, ap (λ (t : Block). t .number) (block-short m text b h), e))
+-- ── one line ──
+module _ (m l b : List ℕ) (ok : state-ok m ≡ true) (room : 32 ≤ length b) where
+  abbrev answer : List ℕ
+  answer = answer-to m l
+
+  abbrev memory : List ℕ
+  memory = write (verdict-on m l .edit) m
+
+  alone-judged : asked m (l ∷ []) b ≡ block-left (took (Taken.Lines 1 (length l) (length answer))) memory (begun answer b)
+  alone-judged =
+      let bytes : length l + 0 ≡ length l = omega arith in
+      let written : length answer + 0 ≡ length answer = omega arith in
+      block-judged m (l ∷ []) b room ok ∙ line-answered m l b ok room [] ∙ ap (before 1 (length l) answer) (no-line memory (drop (length answer) b))
+      ∙ (λ x. record { number = 0; lines = 1; bytes = bytes x; written = written x; memory = memory; buffer = begun answer b })
+
+  -- what the record call leaves, as a block of one line
+  pub one-taken : {k ys : List ℕ} {n : ℕ} → record-left (bytes-said n) k ys ≡ recorded m l b → block-left (took (Taken.Lines 1 (length l) n)) k ys ≡ asked m (l ∷ []) b
+  one-taken e = ap (λ (r : Recorded). block-left (took (Taken.Lines 1 (length l) (r .said .bytes))) (r .memory) (r .buffer)) (e ∙ judged-line m l b room ok) ∙ sym alone-judged
+
+-- and a block of one line is what the record call leaves
+alone-recorded : (m l b : List ℕ) → let t = asked m (l ∷ []) b in record-left (record { number = t .number; bytes = t .written }) (t .memory) (t .buffer) ≡ recorded m l b
+alone-recorded m l b = elim (decLt (length b) 32) [
+  | yes h ↦ rw (block-short m (l ∷ []) b h, short-buffer m l b h) refl
   | no h ↦ let room : 32 ≤ length b = omega (arith, h) in
-      (room, on (λ t. state-ok m ≡ t → t ≡ true) (state-ok m) (λ z q. refl) (λ z q. absurd (omega (arith, ap (λ (t : Block). t .number) (block-bad m text b room q), e))) refl)
+      on (λ t. state-ok m ≡ t → let t = asked m (l ∷ []) b in record-left (record { number = t .number; bytes = t .written }) (t .memory) (t .buffer) ≡ recorded m l b) (state-ok m)
+      (λ z e. rw (alone-judged m l b e room, judged-line m l b room e) refl) (λ z e. rw (block-bad m (l ∷ []) b room e, bad-state m l b room e) refl) refl
+]
+
+pub recorded-by : (m l b : List ℕ) {k ys : List ℕ} {x : Taken} (y : Taken) → x ≡ y → block-left (took x) k ys ≡ asked m (l ∷ []) b → record-left (record { number = took y .number; bytes = took y .written }) k ys ≡ recorded m l b
+recorded-by m l b {k} {ys} y q e = ap (λ (t : Block). record-left (record { number = t .number; bytes = t .written }) (t .memory) (t .buffer)) (ap (λ z. block-left (took z) k ys) (sym q) ∙ e) ∙ alone-recorded m l b
+
+-- what is not refused has room and a state that meets the rules
+pub block-clear : (m : List ℕ) (ls : List (List ℕ)) (b : List ℕ) → asked m ls b .number ≡ 0 → (32 ≤ length b) × (state-ok m ≡ true)
+block-clear m ls b e = elim (decLt (length b) 32) [
+  | yes h ↦ absurd (omega (arith, ap (λ (t : Block). t .number) (block-short m ls b h), e))
+  | no h ↦ let room : 32 ≤ length b = omega (arith, h) in
+      (room, on (λ t. state-ok m ≡ t → t ≡ true) (state-ok m) (λ z q. refl) (λ z q. absurd (omega (arith, ap (λ (t : Block). t .number) (block-bad m ls b room q), e))) refl)
 ]
 
 -- ── what is written has room, and where an answer line more has room no line is left ──
@@ -160,7 +192,7 @@ ran m ok (l ∷ ls) b = elim (decLt (length b) 32) [
 
 pub written-within : (m text b : List ℕ) → blocked m text b .written ≤ length b
 written-within m text b = elim (decLt (length b) 32) [
-  | yes h ↦ rw (block-short m text b h) (omega arith)
+  | yes h ↦ rw (block-short m (whole [] text) b h) (omega arith)
   | no h ↦ on (λ t. state-ok m ≡ t → blocked m text b .written ≤ length b) (state-ok m)
-      (λ z e. rw (block-judged m text b (omega (arith, h)) e) (ran m e (whole [] text) b .within)) (λ z e. rw (block-bad m text b (omega (arith, h)) e) (omega arith)) refl
+      (λ z e. rw (block-judged m (whole [] text) b (omega (arith, h)) e) (ran m e (whole [] text) b .within)) (λ z e. rw (block-bad m (whole [] text) b (omega (arith, h)) e) (omega arith)) refl
 ]

@@ -55,10 +55,10 @@ module _ (u m b : List ℕ) {k n w : ℕ} {m' b' : List ℕ} (e : block-left (to
   lend = record { text = u; buffer = b }
 
   clear : (32 ≤ length b) × (state-ok m ≡ true)
-  clear = block-clear m u b (sym (ap (λ (t : Block). t .number) e))
+  clear = block-clear m (whole [] u) b (sym (ap (λ (t : Block). t .number) e))
 
   runs : Ran ls b (block-of m lend)
-  runs = subst (Ran ls b) (sym (block-judged m u b (clear .0) (clear .1))) (ran m (clear .1) ls b)
+  runs = subst (Ran ls b) (sym (block-judged m (whole [] u) b (clear .0) (clear .1))) (ran m (clear .1) ls b)
 
   count : k ≡ block-of m lend .lines
   count = ap (λ (t : Block). t .lines) e
@@ -86,7 +86,7 @@ module _ (u m b : List ℕ) {k n w : ℕ} {m' b' : List ℕ} (e : block-left (to
   some : length b - w < 32 → 1 ≤ n
   some h = let q = ap (λ (t : Block). t .written) e in
       let written : 1 ≤ block-of m lend .written = omega (arith, q, clear .0) in
-      rw bytes-are (taken-some u k (omega (arith, count, runs .some-taken written)) (λ z. let nothing = ap (λ (t : Block). t .written) (block-judged m u b (clear .0) (clear .1) ∙ ap (λ ls. one-by-one m ls b) z ∙ no-line m b) in omega (arith, written, nothing)))
+      rw bytes-are (taken-some u k (omega (arith, count, runs .some-taken written)) (λ z. let nothing = ap (λ (t : Block). t .written) (block-judged m (whole [] u) b (clear .0) (clear .1) ∙ ap (λ ls. one-by-one m ls b) z ∙ no-line m b) in omega (arith, written, nothing)))
 
   pub passed : (text : List ℕ) (at : ℕ) → at ≤ length text → u ≡ tail text at → Passed text at m b n w m'
   passed text at le q =

@@ -130,7 +130,7 @@ pub record MakesDay (m : List ℕ) (ds : List Lent) : Type 0 where
   pub wrote : blocks-wrote m ds ≡ in-a-row (replies recorded m (calls-of m ds))
 
 pub makes-block : (m : List ℕ) → state-ok m ≡ true → (d : Lent) → 32 ≤ length (d .buffer) → Makes m (whole [] (d .text)) (d .buffer) (block-of m d) (calls-for m (whole [] (d .text)) (d .buffer))
-makes-block m ok d room = rw (block-judged m (d .text) (d .buffer) room ok) (makes m ok (whole [] (d .text)) (d .buffer))
+makes-block m ok d room = rw (block-judged m (whole [] (d .text)) (d .buffer) room ok) (makes m ok (whole [] (d .text)) (d .buffer))
 
 pub makes-day : (m : List ℕ) → state-ok m ≡ true → (ds : List Lent) → Roomy ds → MakesDay m ds
 unfolding flatten

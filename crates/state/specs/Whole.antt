@@ -257,3 +257,12 @@ counted-head m l e = let a = rules-read _ e in counted m l (leb-true _ _ (a .1 .
 pub parts-counted : (m : List ℕ) → parts-ok m ≡ true → Counted m
 unfolding parts-ok
 parts-counted m e = let w = rules-read _ e in counted-head m (leb-true _ _ (w .0)) (w .1 .0)
+
+-- and where it holds, the state rules hold as the keys are apart; where not, they do not
+pub by-keys : (m : List ℕ) → parts-ok m ≡ true → keys-ok m ≡ state-ok m
+unfolding passes
+by-keys m e = pass _ _ _ e (last-call _ _ refl) ∙ whole m
+
+pub parts-bad : (m : List ℕ) → parts-ok m ≡ false → state-ok m ≡ false
+unfolding passes
+parts-bad m e = sym (stop _ _ e ∙ whole m)

@@ -1,44 +1,63 @@
--- `calls::record` meets its contract: 21 and 22 write nothing; else the line is judged.
-use mathlib.Core.Path.{sym, _∙_}
-use borrow.Author.Tests.{not-true, not-false}
-use Rattle.calls.specs.Keeping.{short-buffer, bad-state}
+-- `calls::record` meets its contract: a line alone, judged as a block of one, is a record.
 use borrow.Author.Needs.{needs}
+use Rattle.calls.specs.Taking.{recorded-by}
+use Rattle.calls.specs.declared.Taken.{Taken}
 use Rattle.calls.proofs.record.Statement.{statement}
 use Rattle.calls.proofs.record.Tie as tie
 
-returns : tie.Need-returns
-returns c = sym (short-buffer _ _ _ (c .if1 .taken))
+judge-checked-requires : tie.Need-judge-checked-requires
+judge-checked-requires c κs = search needs
 
-state-ok-requires : tie.Need-state-ok-requires
-state-ok-requires c κs = search needs
+enum-known-written : tie.Need-enum-known-written
+enum-known-written c = search needs
+
+enum-told : tie.Need-enum-told
+enum-told c = search needs
+
+enum-told-2 : tie.Need-enum-told-2
+enum-told-2 c = search needs
 
 same-length : tie.Need-same-length
 same-length c = search needs
 
-returns-2 : tie.Need-returns-2
-returns-2 c = sym (bad-state _ _ _ (c .before .before .before .if1 .left) (sym (c .before .state-ok .ensures) ∙ not-true _ (c .if2 .taken)))
-
-judge-line-requires : tie.Need-judge-line-requires
-judge-line-requires c κs = (sym (c .before .before .before .state-ok .ensures) ∙ not-false _ (c .before .before .if2 .left), c .before .before .before .before .before .if1 .left)
-
 same-length-2 : tie.Need-same-length-2
 same-length-2 c = search needs
+
+returns : tie.Need-returns
+returns c = recorded-by _ _ _ _ (c .before .written .given .1) (c .before .before .before .before .before .before .before .judge-checked .ensures)
 
 same-length-3 : tie.Need-same-length-3
 same-length-3 c = search needs
 
+same-length-4 : tie.Need-same-length-4
+same-length-4 c = search needs
+
+returns-2 : tie.Need-returns-2
+returns-2 c = recorded-by _ _ _ Taken.ShortBuffer (c .enum-told .given .1) (c .before .before .before .before .before .before .judge-checked .ensures)
+
+same-length-5 : tie.Need-same-length-5
+same-length-5 c = search needs
+
+same-length-6 : tie.Need-same-length-6
+same-length-6 c = search needs
+
 returns-3 : tie.Need-returns-3
-returns-3 c = search needs
+returns-3 c = recorded-by _ _ _ Taken.BadState (c .enum-told2 .given .1) (c .before .before .before .before .before .before .judge-checked .ensures)
 
 pub record-spec : {M : Type 1} → statement M
 record-spec =
     tie.close
     (tie.spec
-    returns
-    state-ok-requires
+    judge-checked-requires
+    enum-known-written
+    enum-told
+    enum-told-2
     same-length
-    returns-2
-    judge-line-requires
     same-length-2
+    returns
     same-length-3
+    same-length-4
+    returns-2
+    same-length-5
+    same-length-6
     returns-3)
