@@ -107,18 +107,9 @@ fn is_fresh(mem: &[u64], at: usize, width: usize, words: usize, next: &[u16], j:
     requires { ⌜ Linked (hash-row (now mem) at width words) (now next) j ⌝ }
     ensures { λ r. ⌜ r ≡ fresh (same-row (now (mem .entry)) at width words) j ⌝ }
 {
-    walk(
-        mem,
-        at,
-        width,
-        j,
-        mem,
-        at + j * width,
-        words,
-        next,
-        wide(next[j]),
-    )
-        >= j
+    let b = at + j * width;
+    let latest = wide(next[j]);
+    walk(mem, at, width, j, mem, b, words, next, latest) >= j
 }
 
 // One row more in the chains: its link is the latest row of its slot, head has each slot's, and it is the latest now.
@@ -167,27 +158,6 @@ pub fn chain_rows(
     true
 }
 
-// The row of the first n that begins with the words of the key, or n where none does. The arrays have the chains of these rows, no two of
-// which begin with the same words.
-pub fn find_row(
-    mem: &[u64],
-    at: usize,
-    width: usize,
-    key: &[u64],
-    n: usize,
-    head: &[u16],
-    next: &[u16],
-) -> usize
-    requires { ⌜ HasRows (now mem) at width (length (now key)) n ⌝ }
-    requires { ⌜ Chained (hash-row (now mem) at width (length (now key))) (now head) (now next) n ⌝ }
-    requires { ⌜ apart (same-row (now mem) at width (length (now key))) n ≡ true ⌝ }
-    ensures { λ r. ⌜ r ≡ least (begins (now (mem .entry)) at width (now (key .entry)) 0 (length (now (key .entry)))) n ⌝ }
-{
-    let words = key.len();
-    let s = hash_at(key, 0, words) % head.len();
-    walk(mem, at, width, n, key, 0, words, next, wide(head[s]))
-}
-
 // The same with arrays of its own, for few rows: at most 512.
 pub fn few_apart(mem: &[u64], at: usize, width: usize, words: usize, n: usize) -> bool
     requires { ⌜ HasRows (now mem) at width words n ⌝ }
@@ -232,4 +202,25 @@ pub fn rows_apart(mem: &[u64], at: usize, width: usize, words: usize, n: usize) 
         return middle(mem, at, width, words, n);
     }
     large(mem, at, width, words, n)
+}
+
+// The row of the first n that begins with the words of the key, or n where none does. The arrays have the chains of these rows, no two of
+// which begin with the same words.
+pub fn find_row(
+    mem: &[u64],
+    at: usize,
+    width: usize,
+    key: &[u64],
+    n: usize,
+    head: &[u16],
+    next: &[u16],
+) -> usize
+    requires { ⌜ HasRows (now mem) at width (length (now key)) n ⌝ }
+    requires { ⌜ Chained (hash-row (now mem) at width (length (now key))) (now head) (now next) n ⌝ }
+    requires { ⌜ apart (same-row (now mem) at width (length (now key))) n ≡ true ⌝ }
+    ensures { λ r. ⌜ r ≡ least (begins (now (mem .entry)) at width (now (key .entry)) 0 (length (now (key .entry)))) n ⌝ }
+{
+    let words = key.len();
+    let s = hash_at(key, 0, words) % head.len();
+    walk(mem, at, width, n, key, 0, words, next, wide(head[s]))
 }

@@ -4,11 +4,11 @@ use borrow.Author.Needs.{needs}
 use Rattle.chains.proofs.is_fresh.Statement.{statement}
 use Rattle.chains.proofs.is_fresh.Tie as tie
 
-mul-walk : tie.Need-mul-walk
-mul-walk c = search needs
+mul-b : tie.Need-mul-b
+mul-b c = search needs
 
-add-walk : tie.Need-add-walk
-add-walk c = search needs
+add-b : tie.Need-add-b
+add-b c = search needs
 
 mul-wide : tie.Need-mul-wide
 mul-wide c = search needs
@@ -30,8 +30,8 @@ pub is-fresh-spec : {M : Type 1} → statement M
 is-fresh-spec =
     tie.close
     (tie.spec
-    mul-walk
-    add-walk
+    mul-b
+    add-b
     mul-wide
     shared-slice-read-wide
     wide-requires
