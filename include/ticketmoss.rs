@@ -13,6 +13,17 @@ pub const ORDER_WORDS: usize = 8;
 #[derive(Clone, Copy, Debug, PartialEq, Eq)]
 pub struct Refused(pub u8);
 
+/// How far a block of lines was taken.
+#[derive(Clone, Copy, Debug, PartialEq, Eq)]
+pub struct Taken {
+    /// The lines that were taken.
+    pub lines: usize,
+    /// The bytes that these lines have.
+    pub bytes: usize,
+    /// The bytes of their answer lines.
+    pub written: usize,
+}
+
 mod calls {
     extern "C" {
         pub fn ticketmoss_words(places: usize) -> usize;
@@ -26,6 +37,15 @@ mod calls {
             length: usize,
             buffer: *mut u8,
             size: usize,
+        ) -> i64;
+        pub fn ticketmoss_block(
+            words: *mut u64,
+            count: usize,
+            lines: *const u8,
+            length: usize,
+            buffer: *mut u8,
+            size: usize,
+            taken: *mut [u64; 2],
         ) -> i64;
         pub fn ticketmoss_closing(
             words: *const u64,
@@ -91,6 +111,26 @@ pub fn record(words: &mut [u64], line: &[u8], buffer: &mut [u8]) -> Result<usize
             buffer.len(),
         )
     })
+}
+
+/// Judges the lines that end in the lent bytes, one after the other, with their answer lines from the buffer's start on: how far they were taken, or
+/// 21 or 22. It stops before the first line for which fewer than `ANSWER_BYTES` are left, and before a last part without LF; the state rules are
+/// tried once. `ticketmoss.h` says how to use it.
+pub fn block(words: &mut [u64], lines: &[u8], buffer: &mut [u8]) -> Result<Taken, Refused> {
+    let mut taken = [0; 2];
+    let written = told(unsafe {
+        calls::ticketmoss_block(
+            words.as_mut_ptr(),
+            words.len(),
+            lines.as_ptr(),
+            lines.len(),
+            buffer.as_mut_ptr(),
+            buffer.len(),
+            &mut taken,
+        )
+    })?;
+    let [lines, bytes] = taken.map(|count| count as usize);
+    Ok(Taken { lines, bytes, written })
 }
 
 /// The closing line of the group at a place in listing order, from 0: its bytes at the buffer's start, or 21, 22, or 5 where there is none.
