@@ -5,6 +5,8 @@
 /// The least bytes of a buffer for an answer line, and for a closing line; no line has more.
 pub const ANSWER_BYTES: usize = 32;
 pub const CLOSING_BYTES: usize = 96;
+/// The bytes of a line that a host has to hold.
+pub const LINE_BYTES: usize = 161;
 /// The bytes of an order message and of a house message, and the words in which a message is read.
 pub const MESSAGE_BYTES: usize = 131;
 pub const ORDER_WORDS: usize = 8;
@@ -129,8 +131,12 @@ pub fn block(words: &mut [u64], lines: &[u8], buffer: &mut [u8]) -> Result<Taken
             &mut taken,
         )
     })?;
-    let [lines, bytes] = taken.map(|count| count as usize);
-    Ok(Taken { lines, bytes, written })
+    Ok(Taken {
+        // no more than the bytes that were lent
+        lines: taken[0] as usize,
+        bytes: taken[1] as usize,
+        written,
+    })
 }
 
 /// The closing line of the group at a place in listing order, from 0: its bytes at the buffer's start, or 21, 22, or 5 where there is none.

@@ -130,10 +130,12 @@ impl Blocks {
                 gate.record(line.as_bytes(), &mut answers);
             });
             let all = (text.lines().count(), text.len(), answers.len());
+            self.buffer.fill(0);
             let ours = ticketmoss::block(&mut words, text.as_bytes(), &mut self.buffer);
             let ours = ours.expect("a good state");
             assert_eq!((ours.lines, ours.bytes, ours.written), all, "the lines taken");
             assert!(answers == self.buffer[..ours.written], "the answers to a block");
+            self.buffer.fill(0);
             let theirs = blocks.block(text.as_bytes(), &mut self.buffer);
             assert_eq!((theirs.lines, theirs.bytes, theirs.written), all, "the lines taken");
             assert!(answers == self.buffer[..theirs.written], "the answers to a block");
