@@ -16,7 +16,8 @@ use crate::worker::{Program, Worker};
 use crate::wrong::Wrong;
 use crate::Difference;
 
-/// In texts that are not longer, single bytes are left out.
+/// Lines are left out of a block that does not have more, and bytes of one that does not.
+const MOST_LINES: usize = 5_000;
 const MOST_BYTES: usize = 100;
 
 /// Every try has a worker of its own.
@@ -208,8 +209,10 @@ impl Shrinker<'_> {
         };
         let fails = |words: &[u64], text: &[u8], size| self.blocks_fail(&with(words, text, size));
         let (words, call) = (&frame.base, &frame.calls[0]);
-        let lines: Vec<&[u8]> = call.text.split_inclusive(|&b| b == b'\n').collect();
-        let lines = fewest(lines, |lines| fails(words, &lines.concat(), call.size));
+        let mut lines: Vec<&[u8]> = call.text.split_inclusive(|&b| b == b'\n').collect();
+        if lines.len() <= MOST_LINES {
+            lines = fewest(lines, |lines| fails(words, &lines.concat(), call.size));
+        }
         let mut text = lines.concat();
         if text.len() <= MOST_BYTES {
             text = fewest(text, |text| fails(words, text, call.size));
