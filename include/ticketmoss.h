@@ -106,6 +106,18 @@ int64_t ticketmoss_state(const uint64_t *words, size_t count);
  * any other, by a line with number 1. */
 int64_t ticketmoss_record(uint64_t *words, size_t count, const uint8_t *line, size_t length, uint8_t *buffer, size_t size);
 
+/* Judges the lines that end in the lent bytes, one after the other, as if each had been lent to ticketmoss_record with what is left of the
+ * buffer: their answer lines stand one after the other from the buffer's start. It stops before the first line for which fewer than
+ * TICKETMOSS_ANSWER_BYTES are left, and before a last part without LF. The bytes of the answer lines, 0 where no line ends in the lent bytes;
+ * then taken[0] is how many lines were taken and taken[1] how many bytes they have. Or, whatever the bytes hold, -TICKETMOSS_SHORT_BUFFER or
+ * -TICKETMOSS_BAD_STATE; then `taken` stays as found too. `taken` points to two words that overlap nothing else.
+ *
+ * The state rules are tried once a block, in a time that grows with the places taken: lend as many lines as there are. Afterwards move the bytes
+ * that were not taken to the front, and lend them again with what comes behind them. Where there is an LF and the buffer is not refused, at least
+ * one line is taken. A line is one line however long it is; of one that has not ended within TICKETMOSS_LINE_BYTES a host may drop the rest up to
+ * its LF, since the answer is that to a broken line in any case. */
+int64_t ticketmoss_block(uint64_t *words, size_t count, const uint8_t *lines, size_t length, uint8_t *buffer, size_t size, uint64_t taken[2]);
+
 /* The closing line of the group at a place in listing order, from 0; it changes no word. Its bytes, or -TICKETMOSS_SHORT_BUFFER,
  * -TICKETMOSS_BAD_STATE, or -TICKETMOSS_NO_MPID where no group has the place. */
 int64_t ticketmoss_closing(const uint64_t *words, size_t count, size_t place, uint8_t *buffer, size_t size);

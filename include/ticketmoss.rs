@@ -5,6 +5,8 @@
 /// The least bytes of a buffer for an answer line, and for a closing line; no line has more.
 pub const ANSWER_BYTES: usize = 32;
 pub const CLOSING_BYTES: usize = 96;
+/// The bytes of a line that a host has to hold.
+pub const LINE_BYTES: usize = 161;
 /// The bytes of an order message and of a house message, and the words in which a message is read.
 pub const MESSAGE_BYTES: usize = 131;
 pub const ORDER_WORDS: usize = 8;
@@ -12,6 +14,17 @@ pub const ORDER_WORDS: usize = 8;
 /// One of the documents' numbers with which a call refuses: 5, 21, 22, 23, 41, 42 or 43 (`ticketmoss.h` names them). Nothing was changed.
 #[derive(Clone, Copy, Debug, PartialEq, Eq)]
 pub struct Refused(pub u8);
+
+/// How far a block of lines was taken.
+#[derive(Clone, Copy, Debug, PartialEq, Eq)]
+pub struct Taken {
+    /// The lines that were taken.
+    pub lines: usize,
+    /// The bytes that these lines have.
+    pub bytes: usize,
+    /// The bytes of their answer lines.
+    pub written: usize,
+}
 
 mod calls {
     extern "C" {
@@ -26,6 +39,15 @@ mod calls {
             length: usize,
             buffer: *mut u8,
             size: usize,
+        ) -> i64;
+        pub fn ticketmoss_block(
+            words: *mut u64,
+            count: usize,
+            lines: *const u8,
+            length: usize,
+            buffer: *mut u8,
+            size: usize,
+            taken: *mut [u64; 2],
         ) -> i64;
         pub fn ticketmoss_closing(
             words: *const u64,
@@ -90,6 +112,30 @@ pub fn record(words: &mut [u64], line: &[u8], buffer: &mut [u8]) -> Result<usize
             buffer.as_mut_ptr(),
             buffer.len(),
         )
+    })
+}
+
+/// Judges the lines that end in the lent bytes, one after the other, with their answer lines from the buffer's start on: how far they were taken, or
+/// 21 or 22. It stops before the first line for which fewer than `ANSWER_BYTES` are left, and before a last part without LF; the state rules are
+/// tried once. `ticketmoss.h` says how to use it.
+pub fn block(words: &mut [u64], lines: &[u8], buffer: &mut [u8]) -> Result<Taken, Refused> {
+    let mut taken = [0; 2];
+    let written = told(unsafe {
+        calls::ticketmoss_block(
+            words.as_mut_ptr(),
+            words.len(),
+            lines.as_ptr(),
+            lines.len(),
+            buffer.as_mut_ptr(),
+            buffer.len(),
+            &mut taken,
+        )
+    })?;
+    Ok(Taken {
+        // no more than the bytes that were lent
+        lines: taken[0] as usize,
+        bytes: taken[1] as usize,
+        written,
     })
 }
 

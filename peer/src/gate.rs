@@ -4,8 +4,8 @@
 use crate::books::{fields, group_key, place_key, symbol_key, Group, Order, Place, Symbol};
 use crate::books::{MOST_GROUPS, MOST_SYMBOLS};
 use crate::checks::{on_tick, protected, Totals};
-use crate::line::{self, yes_or_no, Ident, Line, Mpid, Record, Side, CEILING};
-use crate::memory::MOST_PLACES;
+use crate::line::{self, yes_or_no, Filled, Ident, Line, Mpid, Out, Record, Side, CEILING};
+use crate::memory::{ANSWER_ROOM, MOST_PLACES};
 use crate::table::{Keyed, Table};
 
 /// What becomes of one record.
@@ -17,6 +17,17 @@ pub struct Answer {
     pub number: u8,
     /// An order message is to be sent.
     pub sent: bool,
+}
+
+/// How far a block of lines was taken (document 02, order 4).
+#[derive(Clone, Copy, Debug, Default, PartialEq, Eq)]
+pub struct Taken {
+    /// The lines taken.
+    pub lines: usize,
+    /// The bytes of these lines.
+    pub bytes: usize,
+    /// The bytes of their answer lines.
+    pub written: usize,
 }
 
 /// An answer that sends nothing.
@@ -88,8 +99,36 @@ impl Gate {
 
     /// Judges one line, lent with its LF, and appends its answer line ("A whole day").
     pub fn record(&mut self, line: &[u8], out: &mut Vec<u8>) -> Answer {
-        let Some(record) = &line::read(line) else {
-            out.extend_from_slice(b"?\t-\tR\t1\t0\n");
+        self.answer(line, line::read(line).as_ref(), out)
+    }
+
+    /// Judges the lines that end in this text, one after the other, and writes their answer
+    /// lines from the buffer's start on. Stops before the first line for which fewer than 32
+    /// bytes are left, and before a last part without LF.
+    pub fn block(&mut self, text: &[u8], to: &mut [u8]) -> Taken {
+        let (mut lines, mut rest) = (0, text);
+        let mut out = Filled { to, written: 0 };
+        while out.to.len() - out.written >= ANSWER_ROOM {
+            let (record, length) = match line::first(rest) {
+                Some((record, length)) => (Some(record), length),
+                None => match rest.iter().position(|&b| b == b'\n') {
+                    Some(end) => (None, end + 1),
+                    None => break,
+                },
+            };
+            let (line, after) = rest.split_at(length);
+            self.answer(line, record.as_ref(), &mut out);
+            rest = after;
+            lines += 1;
+        }
+        Taken { lines, bytes: text.len() - rest.len(), written: out.written }
+    }
+
+    /// Judges the record of a line, or number 1 where it has none, and writes its answer line.
+    #[inline]
+    fn answer(&mut self, line: &[u8], record: Option<&Record>, out: &mut impl Out) -> Answer {
+        let Some(record) = record else {
+            out.put(b"?\t-\tR\t1\t0\n");
             return refused(1);
         };
         let answer = self.judge(record);

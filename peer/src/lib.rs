@@ -1,4 +1,4 @@
-//! A second reading of document 01, with orders 1 and 2 of document 02, without proofs.
+//! A second reading of document 01, with orders 1, 2 and 4 of document 02, without proofs.
 //!
 //! It shares no code with the proved gate. The two are fed the same lines and the same
 //! words, and their answers and their memory are compared; it also serves as the other

@@ -251,12 +251,17 @@ impl Fields<'_> {
 }
 
 /// The record of a line that is lent with its LF. `None` is number 1.
-#[rustfmt::skip]
 pub fn read(line: &[u8]) -> Option<Record> {
-    if line.len() > MOST_LINE + 1 {
-        return None;
-    }
-    let (&kind, rest) = line.split_first()?;
+    let (record, length) = first(line)?;
+    (length == line.len()).then_some(record)
+}
+
+/// The record of the first line of a text, and the length of that line with its LF. No
+/// field has an LF, so that the line need not be looked for before it is read.
+#[inline]
+#[rustfmt::skip]
+pub fn first(text: &[u8]) -> Option<(Record, usize)> {
+    let (&kind, rest) = text.split_first()?;
     let mut f = Fields { rest };
     let record = match kind {
         b'G' => {
@@ -294,26 +299,53 @@ pub fn read(line: &[u8]) -> Option<Record> {
         b'H' => Record::H { number: f.number(NUMBER)?, mpid: f.mpid()?, target: f.ident()? },
         _ => return None,
     };
-    (f.rest == b"\n").then_some(record)
+    let rest = f.rest.strip_prefix(b"\n")?;
+    let length = text.len() - rest.len();
+    (length <= MOST_LINE + 1).then_some((record, length))
+}
+
+/// Where lines are written to, one after the other.
+pub(crate) trait Out {
+    fn put(&mut self, bytes: &[u8]);
+}
+
+impl Out for Vec<u8> {
+    fn put(&mut self, bytes: &[u8]) {
+        self.extend_from_slice(bytes);
+    }
+}
+
+/// A buffer, and how many bytes are written from its start on.
+pub(crate) struct Filled<'a> {
+    pub(crate) to: &'a mut [u8],
+    pub(crate) written: usize,
+}
+
+impl Out for Filled<'_> {
+    #[inline]
+    fn put(&mut self, bytes: &[u8]) {
+        self.to[self.written..][..bytes.len()].copy_from_slice(bytes);
+        self.written += bytes.len();
+    }
 }
 
 /// A line under way: its kind, then fields, each with the tab before it.
-pub(crate) struct Line<'a>(&'a mut Vec<u8>);
+pub(crate) struct Line<'a, O>(&'a mut O);
 
-impl Line<'_> {
-    pub(crate) fn new(out: &mut Vec<u8>, kind: u8) -> Line<'_> {
-        out.push(kind);
+impl<O: Out> Line<'_, O> {
+    pub(crate) fn new(out: &mut O, kind: u8) -> Line<'_, O> {
+        out.put(&[kind]);
         Line(out)
     }
 
     pub(crate) fn text(&mut self, text: &[u8]) -> &mut Self {
-        self.0.push(b'\t');
-        self.0.extend_from_slice(text);
+        self.0.put(b"\t");
+        self.0.put(text);
         self
     }
 
     pub(crate) fn letter(&mut self, letter: u8) -> &mut Self {
-        self.0.extend_from_slice(&[b'\t', letter]);
+        self.0.put(&[b'\t', letter]);
         self
     }
 
@@ -332,7 +364,7 @@ impl Line<'_> {
     }
 
     pub(crate) fn end(&mut self) {
-        self.0.push(b'\n');
+        self.0.put(b"\n");
     }
 }
 

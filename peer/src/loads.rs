@@ -104,10 +104,10 @@ pub fn large() -> Vec<String> {
     day(2, 300_000)
 }
 
-/// 2,000 lines over the greatest table, whose every place is taken.
-pub fn over() -> Vec<String> {
+/// So many lines over the greatest table, whose every place is taken; fewer are the first of more.
+pub fn over(lines: usize) -> Vec<String> {
     let places = GREATEST as u64;
-    trading(&mut Rng::new(3, 0, 0), 2_000, places, places, SYMBOLS)
+    trading(&mut Rng::new(3, 0, 0), lines, places, places, SYMBOLS)
 }
 
 /// The words of a state with so many places, of which so many are taken.

@@ -7,7 +7,7 @@
 use crate::books::{group_key, place_key, symbol_key, Fields, Group, Order, Place, Symbol};
 use crate::books::{remembered, MOST_GROUPS, MOST_SYMBOLS};
 use crate::checks::Totals;
-use crate::gate::Gate;
+use crate::gate::{Gate, Taken};
 use crate::line::{Ident, Mpid, Side, CEILING, LIMIT, NUMBER, PRICE, QUOTE, SIZE};
 
 /// The words of head, groups and symbols. Fewer are no state.
@@ -18,7 +18,7 @@ pub const PLACE_WORDS: usize = KEY + REQUEST + ORDER;
 pub const MOST_PLACES: usize = 65_535;
 
 /// The shortest buffer for an answer line, and for a closing line.
-const ANSWER_ROOM: usize = 32;
+pub(crate) const ANSWER_ROOM: usize = 32;
 const CLOSING_ROOM: usize = 96;
 
 // The words of a row, and where the regions begin.
@@ -85,6 +85,23 @@ pub fn record(mem: &mut [u64], line: &[u8], to: &mut [u8]) -> i64 {
     gate.record(line, &mut answer);
     put(&gate, mem, before);
     give(&answer, to)
+}
+
+/// Judges the lines that end in a text, as far as the buffer goes. 0 or more is the length of
+/// their answer lines at the start of the buffer, and `taken` is how many lines were taken and
+/// how many bytes they have; below 0 is -21 or -22, and nothing is written.
+pub fn block(mem: &mut [u64], text: &[u8], to: &mut [u8], taken: &mut [u64; 2]) -> i64 {
+    if to.len() < ANSWER_ROOM {
+        return -21;
+    }
+    let Ok(mut gate) = build(mem) else {
+        return -22;
+    };
+    let before = gate.places_taken();
+    let Taken { lines, bytes, written } = gate.block(text, to);
+    put(&gate, mem, before);
+    *taken = [lines, bytes].map(|count| count as u64);
+    written as i64
 }
 
 /// The closing line of the group at this place in listing order. Above 0 is its length at
@@ -159,7 +176,7 @@ fn build(mem: &[u64]) -> Result<Gate, &'static str> {
     rule(open || taken == 0, "before O no place taken")?;
     let [groups, symbols, taken] = [groups, symbols, taken].map(|count| count as usize);
 
-    // A record adds one row at most.
+    // A record adds one row at most; the tables grow with a block.
     let mut gate = Gate::sized(room, [groups, symbols, taken].map(|count| count + 1));
     (gate.open, gate.last) = (open, last);
     for words in rows(mem, GROUPS, groups) {

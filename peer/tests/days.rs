@@ -2,7 +2,7 @@
 
 mod common;
 
-use common::{day, day_in_words};
+use common::{day, day_in_words, document_01_day};
 use std::fs;
 
 fn compare(input: &[u8], expected: &[u8], name: &str) {
@@ -28,40 +28,7 @@ fn sample_days() {
 
 #[test]
 fn document_01() {
-    let input = "G ABCD 5000000000 5000000000 2000000000 2000000000 6000000000 6000000000 25000 N
-S 7
-O
-Q 1 7 9990000 10000000
-N T1 ABCD 7 B 100 10000000
-N T1 ABCD 7 B 100 10000000
-N T1 ABCD 7 B 200 10000000
-N T2 ABCD 7 B 101 10000000
-F 2 ABCD T1 40 9990000
-F 2 ABCD T1 40 9990000
-N T2 ABCD 7 B 101 10000000
-D 4 ABCD T1 60
-C T3 ABCD T1
-D 3 ABCD T1 60
-M T4 ABCD T1 100 10000000
-";
-    let expected = "G ABCD P 0 0
-S 7 P 0 0
-O - P 0 0
-Q 1 K 0 0
-N T1 P 0 1
-N T1 P 0 0
-N T1 R 6 0
-N T2 R 33 0
-F 2 K 0 0
-F 2 S 0 0
-N T2 R 33 0
-D 4 R 18 0
-C T3 P 0 1
-D 3 K 0 0
-M T4 R 9 0
-E ABCD 399600000 0 0 0 N
-";
-    let [input, expected] = [input, expected].map(|text| text.replace(' ', "\t").into_bytes());
+    let [input, expected] = document_01_day();
     compare(&input, &expected, "document 01");
 }
 

@@ -17,17 +17,23 @@
  *                                  n times from the base, cut to count words and with some words replaced: the state rules, a record, a
  *                                  closing line                                                    -> n times: result, answer, the words
  *                                  that the record changed (number, (index word)..), answer
+ *   B pattern n (0 or 1 count pokes (index word)..; length size lines)..
+ *                                  n blocks, each over the words as they are (0) or from the base, as with V (1), and the same lines by
+ *                                  record calls                                                    -> n times: answer, two u64 taken, the
+ *                                  words that the block changed, as with V
  *   N n (which number)..           n calls of words (0) or places (1)                              -> n u64
  *   O mode pattern n (0 length length size line house or 1 length size message)..
  *                                  n orders: the line written as a message with the house message (0), or the message read (1); size in
  *                                  bytes, also of the words that a message is read to              -> n answers
  * mode u8: 1 the slices begin behind a guard page (else they end before one), 2 the line, house message or message is read-only, 4 the words are
  * read-only in calls that change none. pattern, which, 0 and 1 u8; pattern: what the buffer is filled with before a call. count, n, pokes, index
- * u32; length, size u16; word, fill, place, result and number 64 bits. An answer: result, flags u8, u16 and so many bytes: the buffer's start up
- * to the last byte that is part of the result or differs from the pattern. flags: 1 the line or message was changed, 2 bytes beside a slice were
- * changed, 4 words were changed by a call that changes none, 8 the house message was changed.
+ * u32; length, size u16, of blocks u32; word, fill, place, result and number 64 bits. An answer: result, flags u8, u32 and so many bytes: the
+ * buffer's start up to the last byte that is part of the result or differs from the pattern. What a block takes is CANARY in every byte before the
+ * call. flags: 1 the line, lines or message was changed, 2 bytes beside a slice were changed, 4 words were changed by a call that changes none, 8
+ * the house message was changed, 16 record calls give other answers than the block, or leave other words.
  *
- * An argument makes the worker wrong on purpose, so that the harness can be seen to notice (see `spoil`, `spoil_written`, `spoil_read`). */
+ * An argument makes the worker wrong on purpose, so that the harness can be seen to notice (see `spoil`, `spoil_written`, `spoil_read`,
+ * `spoil_block`). */
 #define _DEFAULT_SOURCE
 #include <stdint.h>
 #include <stdlib.h>
@@ -38,8 +44,8 @@
 #include "ticketmoss.h"
 
 enum { AT_START = 1, LINE_READ_ONLY = 2, WORDS_READ_ONLY = 4 };
-enum { LINE_CHANGED = 1, BESIDE_CHANGED = 2, WORDS_CHANGED = 4, HOUSE_CHANGED = 8 };
-enum { MOST_LINE = 4096, MOST_HOUSE = 4096, MOST_BUFFER = 4096, MARGIN = 64, CANARY = 0xC3 };
+enum { LINE_CHANGED = 1, BESIDE_CHANGED = 2, WORDS_CHANGED = 4, HOUSE_CHANGED = 8, RECORDS_DIFFER = 16 };
+enum { MOST_LINES = 1 << 20, MOST_HOUSE = 4096, MOST_BUFFER = 1 << 20, TAKEN = 16, MARGIN = 64, CANARY = 0xC3 };
 #define MOST_WORDS TICKETMOSS_WORDS(TICKETMOSS_MOST_PLACES + 100)
 
 static void give_up(void) { _exit(3); }
@@ -93,9 +99,10 @@ static void protect(const struct room *r, int read_only) {
     if (bytes && mprotect(from, bytes, read_only ? PROT_READ : PROT_READ | PROT_WRITE)) give_up();
 }
 
-/* a message that is read lies where lines do, and the words it is read to where buffers do */
-static struct room words, line, house, buffer;
-static uint64_t *base, *before;
+/* a block and a message that is read lie where lines do, and the words it is read to where buffers do */
+static struct room words, line, house, buffer, taken;
+static uint64_t *base, *before, *after;
+static uint8_t *answers;
 static size_t count, base_count;
 static int mode;
 
@@ -255,6 +262,53 @@ static void spoil_read(int64_t *result) {
     }
 }
 
+/* The same for blocks. */
+static void spoil_block(int64_t *result) {
+    size_t watched;
+    uint8_t *from = beside(&taken, &watched);
+    switch (wrong) {
+    case 30: /* reads a byte behind the lines */
+        sink = line.at[line.bytes];
+        break;
+    case 31: /* reads a byte before the lines */
+        sink = line.at[-1];
+        break;
+    case 32: /* reads a byte behind the buffer */
+        sink = buffer.at[buffer.bytes];
+        break;
+    case 33: /* reads a byte behind what is taken */
+        sink = taken.at[TAKEN];
+        break;
+    case 34: /* reads a byte before what is taken */
+        sink = taken.at[-1];
+        break;
+    case 35: /* writes beside what is taken */
+        from[watched - 1] ^= 1;
+        break;
+    case 36: /* writes to the lines */
+        if (line.bytes) line.at[line.bytes - 1] ^= 1;
+        break;
+    case 37: /* writes past the answer lines */
+        if (*result >= 0 && (size_t)*result < buffer.bytes) buffer.at[*result] ^= 1;
+        break;
+    case 38: /* writes to the buffer and refuses with 21 */
+    case 39: /* the same with 22 */
+        if (*result == -(TICKETMOSS_SHORT_BUFFER + wrong - 38) && buffer.bytes) buffer.at[buffer.bytes - 1] ^= 1;
+        break;
+    case 40: /* writes to what is taken and refuses with 21 */
+    case 41: /* the same with 22 */
+        if (*result == -(TICKETMOSS_SHORT_BUFFER + wrong - 40)) memset(taken.at, 0, TAKEN);
+        break;
+    case 42: /* writes a word and refuses with 21 */
+    case 43: /* the same with 22 */
+        if (*result == -(TICKETMOSS_SHORT_BUFFER + wrong - 42) && count) state()[count - 1] ^= 1;
+        break;
+    case 44: /* writes to a free word */
+        if (*result > 0 && count > TICKETMOSS_LEAST_WORDS) state()[count - 1] ^= 1;
+        break;
+    }
+}
+
 /* ---- the calls ---- */
 
 /* A result counts items of so many bytes. */
@@ -263,10 +317,10 @@ static void put_answer(int64_t result, size_t item, int flags, uint8_t pattern) 
     size_t least = result > 0 ? (size_t)result * item : 0;
     while (n > least && buffer.at[n - 1] == pattern) n--;
     uint8_t f = (uint8_t)flags;
-    uint16_t bytes = (uint16_t)n;
+    uint32_t bytes = (uint32_t)n;
     put(&result, 8);
     put(&f, 1);
-    put(&bytes, 2);
+    put(&bytes, 4);
     put(buffer.at, n);
 }
 
@@ -343,30 +397,26 @@ static int64_t try_state(void) {
     return result;
 }
 
-static void variant(uint8_t pattern) {
+/* Lends the base, cut and with some words replaced. */
+static void lend_base(void) {
     TAKE(uint32_t, cut);
     TAKE(uint32_t, pokes);
     if (cut > base_count) give_up();
     lend(cut);
-    memcpy(before, base, cut * 8);
+    memcpy(words.at, base, words.bytes);
     for (uint32_t i = 0; i < pokes; i++) {
         TAKE(uint32_t, index);
         TAKE(uint64_t, word);
-        if (index < cut) before[index] = word;
+        if (index < cut) state()[index] = word;
     }
-    memcpy(words.at, before, cut * 8);
+}
 
-    int64_t result = try_state();
-    int flags = memcmp(words.at, before, cut * 8) ? WORDS_CHANGED : 0;
-    put(&result, 8);
-
-    TAKE(uint16_t, length);
-    TAKE(uint16_t, size);
-    record(take(length), length, size, pattern);
+/* The words that are not as before; they count as before from now on. */
+static void put_changed(void) {
     uint32_t changed = 0;
     size_t at = out_used;
     put(&changed, 4);
-    for (uint32_t i = 0; i < cut; i++)
+    for (uint32_t i = 0; i < count; i++)
         if (state()[i] != before[i]) {
             before[i] = state()[i];
             put(&i, 4);
@@ -374,12 +424,82 @@ static void variant(uint8_t pattern) {
             changed++;
         }
     memcpy(out + at, &changed, 4);
+}
+
+static void variant(uint8_t pattern) {
+    lend_base();
+    memcpy(before, words.at, words.bytes);
+    int64_t result = try_state();
+    int flags = memcmp(words.at, before, words.bytes) ? WORDS_CHANGED : 0;
+    put(&result, 8);
+
+    TAKE(uint16_t, length);
+    TAKE(uint16_t, size);
+    record(take(length), length, size, pattern);
+    put_changed();
 
     TAKE(uint64_t, which);
     TAKE(uint16_t, closing_size);
-    at = out_used;
+    size_t at = out_used;
     closing(which, closing_size, pattern, flags);
-    if (memcmp(words.at, before, cut * 8)) out[at + 8] |= WORDS_CHANGED;
+    if (memcmp(words.at, before, words.bytes)) out[at + 8] |= WORDS_CHANGED;
+}
+
+/* The lines that were lent as a block, one by one as a host would lend them: each with what is left of the buffer. */
+static int64_t by_records(uint64_t told[2]) {
+    if (buffer.bytes < TICKETMOSS_ANSWER_BYTES) return -TICKETMOSS_SHORT_BUFFER;
+    int64_t result = ticketmoss_state(state(), count);
+    if (result < 0) return result;
+    uint8_t *from = line.at, *end, *to = buffer.at, *high = buffer.at + buffer.bytes;
+    told[0] = 0;
+    while (high - to >= TICKETMOSS_ANSWER_BYTES && (end = memchr(from, '\n', (size_t)(line.at + line.bytes - from)))) {
+        result = ticketmoss_record(state(), count, from, (size_t)(end + 1 - from), to, (size_t)(high - to));
+        if (result < 0) return result;
+        if (wrong == 45) *to ^= 1;
+        from = end + 1;
+        to += result;
+        told[0]++;
+    }
+    told[1] = (uint64_t)(from - line.at);
+    return to - buffer.at;
+}
+
+/* Whether record calls over the words before a block give the same as it did; what it left is there again afterwards. */
+static int records_differ(int64_t result, uint8_t pattern) {
+    uint64_t told[2];
+    memcpy(after, words.at, words.bytes);
+    memcpy(answers, buffer.at, buffer.bytes);
+    memcpy(words.at, before, words.bytes);
+    memset(buffer.at, pattern, buffer.bytes);
+    memset(told, CANARY, TAKEN);
+    int differ = by_records(told) != result || memcmp(told, taken.at, TAKEN);
+    differ |= memcmp(buffer.at, answers, buffer.bytes) || memcmp(words.at, after, words.bytes);
+    memcpy(buffer.at, answers, buffer.bytes);
+    memcpy(words.at, after, words.bytes);
+    return differ ? RECORDS_DIFFER : 0;
+}
+
+static void block(uint8_t pattern) {
+    TAKE(uint8_t, again);
+    if (again) lend_base();
+    TAKE(uint32_t, length);
+    TAKE(uint32_t, size);
+    const uint8_t *bytes = take(length);
+    lend_bytes(&line, bytes, length);
+    lend_buffer(size, pattern);
+    place(&taken, TAKEN, mode & AT_START);
+    memset(taken.at, CANARY, TAKEN);
+    memcpy(before, words.at, words.bytes);
+    if (mode & LINE_READ_ONLY) protect(&line, 1);
+    int64_t result = ticketmoss_block(state(), count, line.at, length, buffer.at, size, (uint64_t *)(void *)taken.at);
+    if (mode & LINE_READ_ONLY) protect(&line, 0);
+    if (wrong) spoil_block(&result);
+    int flags = memcmp(line.at, bytes, length) ? LINE_CHANGED : 0;
+    flags |= beside_changed(&words) | beside_changed(&line) | beside_changed(&buffer) | beside_changed(&taken);
+    flags |= records_differ(result, pattern);
+    put_answer(result, 1, flags, pattern);
+    put(taken.at, TAKEN);
+    put_changed();
 }
 
 static void obey(void) {
@@ -442,6 +562,12 @@ static void obey(void) {
         while (n--) variant(pattern);
         break;
     }
+    case 'B': {
+        TAKE(uint8_t, pattern);
+        TAKE(uint32_t, n);
+        while (n--) block(pattern);
+        break;
+    }
     case 'N': {
         TAKE(uint32_t, n);
         while (n--) {
@@ -474,12 +600,15 @@ int main(int arguments, char **argument) {
     if (arguments > 1) wrong = atoi(argument[1]);
     page = (size_t)sysconf(_SC_PAGESIZE);
     words = reserve(MOST_WORDS * 8);
-    line = reserve(MOST_LINE);
+    line = reserve(MOST_LINES);
     house = reserve(MOST_HOUSE);
     buffer = reserve(MOST_BUFFER);
+    taken = reserve(TAKEN);
     base = malloc(MOST_WORDS * 8);
     before = malloc(MOST_WORDS * 8);
-    if (!base || !before) give_up();
+    after = malloc(MOST_WORDS * 8);
+    answers = malloc(MOST_BUFFER);
+    if (!base || !before || !after || !answers) give_up();
     uint8_t *command = NULL;
     uint32_t bytes;
     while (get_all((uint8_t *)&bytes, 4)) {

@@ -1,7 +1,8 @@
 //! The gate and the peer timed on the same generated days, in one run (docs/BENCHMARK.md).
 //!
-//! Both are called record by record in this process, over lines that are already in memory and with one answer buffer that is not cleared between
-//! records. They take turns, and of several turns each one's best counts. What both answer is compared once, before anything is timed.
+//! Both are called record by record in this process, and then in blocks of lines, over lines that are already in memory and with one answer buffer
+//! that is not cleared between calls. They take turns, and of several turns each one's best counts. What both answer is compared once, before
+//! anything is timed.
 
 use peer::loads::{self, order, traded};
 use peer::{memory, message};
@@ -13,27 +14,43 @@ use std::time::Instant;
 mod ticketmoss;
 
 const TURNS: usize = 5;
+/// The lines over a full table that are timed by record calls.
+const FEW: usize = 2_000;
 
-/// Nanoseconds for each line, of each of the two on its own copy of a state; the best of several turns.
+/// Nanoseconds since then, for each of so many lines.
+fn each(from: Instant, lines: usize) -> f64 {
+    from.elapsed().as_nanos() as f64 / lines as f64
+}
+
+/// Nanoseconds for each line by the gate's record calls, on its own copy of a state.
+fn gate_records(words: &[u64], lines: &[String]) -> f64 {
+    let mut own = words.to_vec();
+    let mut answer = [0; ticketmoss::ANSWER_BYTES];
+    let from = Instant::now();
+    for line in lines {
+        black_box(ticketmoss::record(&mut own, line.as_bytes(), &mut answer).is_ok());
+    }
+    each(from, lines.len())
+}
+
+/// The same by the peer's.
+fn peer_records(words: &[u64], lines: &[String]) -> f64 {
+    let mut own = memory::load(words);
+    let mut answer = Vec::with_capacity(64);
+    let from = Instant::now();
+    for line in lines {
+        answer.clear();
+        black_box(own.record(line.as_bytes(), &mut answer));
+    }
+    each(from, lines.len())
+}
+
+/// Nanoseconds for each line, of each of the two; the best of several turns.
 fn timed(words: &[u64], lines: &[String], turns: usize) -> (f64, f64) {
     let mut best = (f64::MAX, f64::MAX);
-    let each = |from: Instant| from.elapsed().as_nanos() as f64 / lines.len() as f64;
     for _ in 0..turns {
-        let mut own = words.to_vec();
-        let mut answer = [0; ticketmoss::ANSWER_BYTES];
-        let from = Instant::now();
-        for line in lines {
-            black_box(ticketmoss::record(&mut own, line.as_bytes(), &mut answer).is_ok());
-        }
-        best.0 = best.0.min(each(from));
-        let mut own = memory::load(words);
-        let mut answer = Vec::with_capacity(64);
-        let from = Instant::now();
-        for line in lines {
-            answer.clear();
-            black_box(own.record(line.as_bytes(), &mut answer));
-        }
-        best.1 = best.1.min(each(from));
+        best.0 = best.0.min(gate_records(words, lines));
+        best.1 = best.1.min(peer_records(words, lines));
     }
     best
 }
@@ -64,6 +81,107 @@ fn day_row(name: &str, words: &[u64], lines: &[String], turns: usize) {
         1e9 / theirs,
         ours / theirs
     );
+}
+
+/// Lines in blocks of so many, and a buffer that is long enough for the answers to a block.
+struct Blocks {
+    lines: usize,
+    texts: Vec<String>,
+    buffer: Vec<u8>,
+}
+
+impl Blocks {
+    fn new(lines: &[String], of: usize) -> Blocks {
+        let texts = lines.chunks(of).map(|block| block.concat()).collect();
+        let buffer = vec![0; ticketmoss::ANSWER_BYTES * of.min(lines.len())];
+        Blocks { lines: lines.len(), texts, buffer }
+    }
+
+    /// Nanoseconds for each line by the gate's block calls, on its own copy of a state.
+    fn gate(&mut self, words: &[u64]) -> f64 {
+        let mut own = words.to_vec();
+        let from = Instant::now();
+        for text in &self.texts {
+            black_box(ticketmoss::block(&mut own, text.as_bytes(), &mut self.buffer).is_ok());
+        }
+        each(from, self.lines)
+    }
+
+    /// The same by the peer's.
+    fn peer(&mut self, words: &[u64]) -> f64 {
+        let mut own = memory::load(words);
+        let from = Instant::now();
+        for text in &self.texts {
+            black_box(own.block(text.as_bytes(), &mut self.buffer));
+        }
+        each(from, self.lines)
+    }
+
+    /// The gate's block calls, the peer's, and the peer's record calls: every line is taken, the answers are the same, and so is the memory
+    /// afterwards.
+    fn same(&mut self, words: &[u64]) {
+        let (mut gate, mut blocks, mut words) =
+            (memory::load(words), memory::load(words), words.to_vec());
+        let (mut after, mut others) = (words.clone(), words.clone());
+        let mut answers = Vec::new();
+        for text in &self.texts {
+            answers.clear();
+            text.split_inclusive('\n').for_each(|line| {
+                gate.record(line.as_bytes(), &mut answers);
+            });
+            let all = (text.lines().count(), text.len(), answers.len());
+            self.buffer.fill(0);
+            let ours = ticketmoss::block(&mut words, text.as_bytes(), &mut self.buffer);
+            let ours = ours.expect("a good state");
+            assert_eq!((ours.lines, ours.bytes, ours.written), all, "the lines taken");
+            assert!(answers == self.buffer[..ours.written], "the answers to a block");
+            self.buffer.fill(0);
+            let theirs = blocks.block(text.as_bytes(), &mut self.buffer);
+            assert_eq!((theirs.lines, theirs.bytes, theirs.written), all, "the lines taken");
+            assert!(answers == self.buffer[..theirs.written], "the answers to a block");
+        }
+        memory::store(&gate, &mut after);
+        memory::store(&blocks, &mut others);
+        assert!(after == words && after == others, "the memory after the blocks");
+    }
+}
+
+/// A day in blocks. The gate's record calls are timed on its first `few` lines, and blocks of up to sixteen lines on so many that there are at most
+/// `calls` of them.
+fn block_rows(name: &str, words: &[u64], lines: &[String], few: usize, calls: usize, turns: usize) {
+    let sizes = [1, 16, 256, 4_096, 65_536, lines.len()];
+    let mut blocks = sizes.map(|of| {
+        let most = if of > 16 { lines.len() } else { lines.len().min(calls.saturating_mul(of)) };
+        Blocks::new(&lines[..most], of)
+    });
+    same(words, &lines[..few]);
+    blocks.iter_mut().for_each(|blocks| blocks.same(words));
+    let (mut records, mut ours, mut theirs) = (f64::MAX, sizes.map(|_| f64::MAX), [f64::MAX; 2]);
+    for _ in 0..turns {
+        records = records.min(gate_records(words, &lines[..few]));
+        for (best, blocks) in ours.iter_mut().zip(&mut blocks) {
+            *best = best.min(blocks.gate(words));
+        }
+        theirs[0] = theirs[0].min(peer_records(words, lines));
+        let [.., whole] = &mut blocks;
+        theirs[1] = theirs[1].min(whole.peer(words));
+    }
+    // the better of the peer's two ways
+    let peer = theirs[0].min(theirs[1]);
+    let row = |way: &str, lines: usize, time: f64, ratio: &str| {
+        println!("| {name} | {way} | {lines} | {:.0} | {ratio} |", 1e9 / time);
+    };
+    let ratio = |time: f64| format!("{:.1}", time / peer);
+    row("gate, record calls", few, records, &ratio(records));
+    for ((of, blocks), time) in sizes.iter().zip(&blocks).zip(ours) {
+        let way = match *of == lines.len() {
+            true => "gate, one block".to_string(),
+            false => format!("gate, blocks of {of}"),
+        };
+        row(&way, blocks.lines, time, &ratio(time));
+    }
+    row("peer, record calls", lines.len(), theirs[0], "");
+    row("peer, one block", lines.len(), theirs[1], "");
 }
 
 /// Nanoseconds of the state check alone.
@@ -263,7 +381,14 @@ fn main() {
     day_row("small, 400 places", &fresh, &small, 20 * TURNS);
     day_row("large, 400 places", &fresh, &large, TURNS);
     let full = traded(loads::GREATEST, loads::GREATEST as u64);
-    day_row("full table, 65,535 places", &full, &loads::over(), 2);
+    let over = loads::over(large.len());
+    day_row("full table, 65,535 places", &full, &over[..FEW], 2);
+
+    println!("\nBlocks of lines, records a second:\n");
+    println!("| day | calls | lines | records a second | times as long as the peer |");
+    println!("|---|---|---|---|---|");
+    block_rows("large, 400 places", &fresh, &large, large.len(), usize::MAX, 3);
+    block_rows("full table, 65,535 places", &full, &over, FEW, 400, 2);
 
     println!("\nPrograms, records a second:\n");
     println!("| day | lines | gate | peer | times as long |\n|---|---|---|---|---|");

@@ -97,7 +97,7 @@ fn main() {
     let days = [
         ("small, 400 places", &fresh, loads::small(), 200),
         ("large, 400 places", &fresh, loads::large(), 5),
-        ("full table, 65,535 places", &tables[1], loads::over(), 3),
+        ("full table, 65,535 places", &tables[1], loads::over(2_000), 3),
     ];
 
     println!("Nanoseconds a record:\n");

@@ -28,7 +28,7 @@ const DAY: [&[u8]; 7] = [
 ];
 
 /// A small day in its words.
-fn small_day() -> Vec<u64> {
+pub fn small_day() -> Vec<u64> {
     let mut gate = Gate::new(3);
     let mut out = Vec::new();
     for line in DAY {

@@ -1,5 +1,6 @@
 //! Holds the proved gate's static library against this crate's reading of the documents: the
-//! same lines, the same memories, the same order messages, the same buffers on both sides.
+//! same lines, the same blocks of lines, the same memories, the same order messages, the same
+//! buffers on both sides.
 //!
 //!     compare --worker PROGRAM [--through SCRIPT] [--jobs N] [--to FILE]
 //!             [RECORDS [MEMORIES [SEED]]]
@@ -13,8 +14,10 @@
 #![forbid(unsafe_code)]
 
 mod alter;
+mod blocks;
 mod count;
 mod day;
+mod lapse;
 mod lengths;
 mod map;
 mod memories;
@@ -26,6 +29,7 @@ mod shrink;
 mod slip;
 mod states;
 mod store;
+mod texts;
 mod trial;
 mod worker;
 mod wrong;
@@ -34,7 +38,7 @@ use std::path::PathBuf;
 use std::process::ExitCode;
 use std::time::{Duration, Instant};
 
-use run::{Settings, Work};
+use run::{Met, Settings, Work};
 use worker::Program;
 use wrong::Wrong;
 
@@ -110,8 +114,13 @@ fn compare(
     to: &std::path::Path,
 ) -> Result<ExitCode, String> {
     let begun = Instant::now();
-    // As many order messages are drawn as records.
-    let work = Work::plan(settings.seed, records, memories).and_messages(records);
+    // As many order messages are drawn as records; a quarter of the records and of the memories
+    // are lent in blocks as well.
+    let work = Work::plan(settings.seed, records, memories).and_messages(records).and_blocks(
+        settings.seed,
+        records / 4,
+        memories / 4,
+    );
     let outcome = run::run(settings, &work)?;
     let (seconds, seed) = (begun.elapsed().as_secs(), settings.seed);
     if let Some(found) = outcome.found {
@@ -123,7 +132,7 @@ fn compare(
         println!("seed {seed}: a difference, see {}", to.display());
         return Ok(ExitCode::FAILURE);
     }
-    let (counts, tally, answers) = (&outcome.met.counts, &outcome.met.tally, &outcome.met.answers);
+    let Met { counts, tally, answers, ends } = &outcome.met;
     print!("records by kind and number:\n{}", counts.text());
     let never = counts.never();
     if !never.is_empty() {
@@ -141,17 +150,19 @@ fn compare(
     for row in numbers.chunks(6) {
         println!("{}", row.concat());
     }
-    print!("{}", answers.text());
-    let never = answers.never();
+    print!("{}{}", answers.text(), ends.text());
+    let never = [answers.never(), ends.never()].concat();
     if !never.is_empty() {
         println!("never met: {}", never.join(", "));
     }
     println!(
         "{records} records in {} days, {memories} memories ({good} good, {refused} refused), \
-         {} order messages, {} buffer lengths, {} line lengths, {seconds} s, seed {seed}: \
-         no difference",
+         {} order messages, {} lines in {} blocks, {} buffer lengths, {} line lengths, \
+         {seconds} s, seed {seed}: no difference",
         work.days,
         answers.all(),
+        ends.lines,
+        ends.all(),
         lengths::MOST_BUFFER + 1,
         lengths::MOST_LINE + 1,
     );

@@ -88,32 +88,51 @@ pub struct Judged {
     pub closing: Answered,
 }
 
+/// A base cut to so many words, with some words replaced.
+pub fn cut(base: &[u64], count: usize, pokes: &[(u32, u64)]) -> Vec<u64> {
+    let mut words = base[..count].to_vec();
+    for &(index, word) in pokes {
+        if let Some(cell) = words.get_mut(index as usize) {
+            *cell = word;
+        }
+    }
+    words
+}
+
+/// The same, asked for.
+pub fn ask_cut(command: Command, count: usize, pokes: &[(u32, u64)]) -> Command {
+    let poke =
+        |command: Command, &(index, word): &(u32, u64)| command.u32(index as usize).u64(word);
+    pokes.iter().fold(command.u32(count).u32(pokes.len()), poke)
+}
+
+/// The words that differ, as they are after.
+pub fn changed(before: &[u64], after: &[u64]) -> Vec<(u32, u64)> {
+    let pairs = before.iter().zip(after).enumerate();
+    pairs.filter(|(_, (a, b))| a != b).map(|(i, (_, &b))| (i as u32, b)).collect()
+}
+
+/// The words that are lent from now on, and that are the base.
+pub fn lend(mode: u8, base: &[u64]) -> Command {
+    Command::new(b'W').u8(mode).u32(base.len()).words(base)
+}
+
 impl Batch {
     /// The words of a variant.
     pub fn words(&self, variant: &Variant) -> Vec<u64> {
-        let mut words = self.base[..variant.count].to_vec();
-        for &(index, word) in &variant.pokes {
-            if let Some(cell) = words.get_mut(index as usize) {
-                *cell = word;
-            }
-        }
-        words
+        cut(&self.base, variant.count, &variant.pokes)
     }
 
     /// The words that are lent from now on.
     pub fn lend(&self) -> Command {
-        Command::new(b'W').u8(self.mode).u32(self.base.len()).words(&self.base)
+        lend(self.mode, &self.base)
     }
 
     /// What is asked of them.
     pub fn ask(&self) -> Command {
         let command = Command::new(b'V').u8(self.pattern).u32(self.variants.len());
         self.variants.iter().fold(command, |command, v| {
-            let command = command.u32(v.count).u32(v.pokes.len());
-            let poke = |command: Command, &(index, word): &(u32, u64)| {
-                command.u32(index as usize).u64(word)
-            };
-            let command = v.pokes.iter().fold(command, poke);
+            let command = ask_cut(command, v.count, &v.pokes);
             let command = command.u16(v.line.len()).u16(v.size).bytes(&v.line);
             command.u64(v.place).u16(v.closing_size)
         })
@@ -128,9 +147,7 @@ impl Batch {
         let result = memory::record(&mut words, &variant.line, &mut buffer);
         let record = Answered::seen(result, &buffer, self.pattern);
         tally.add(&before, &record);
-        let pairs = before.iter().zip(&words).enumerate();
-        let changed =
-            pairs.filter(|(_, (a, b))| a != b).map(|(i, (_, &b))| (i as u32, b)).collect();
+        let changed = changed(&before, &words);
         let mut buffer = vec![self.pattern; variant.closing_size];
         let result = memory::closing(&words, variant.place as usize, &mut buffer);
         let closing = Answered::seen(result, &buffer, self.pattern);
@@ -142,8 +159,7 @@ impl Judged {
     /// The library's side of a variant.
     pub fn read(reply: &mut Reply) -> Judged {
         let (state, record) = (reply.i64(), reply.answer());
-        let changed = (0..reply.u32()).map(|_| (reply.u32(), reply.u64())).collect();
-        Judged { state, record, changed, closing: reply.answer() }
+        Judged { state, record, changed: reply.changed(), closing: reply.answer() }
     }
 
     /// The first thing in which two sides differ.

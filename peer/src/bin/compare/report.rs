@@ -2,6 +2,7 @@
 
 use peer::memory;
 
+use crate::blocks::{self, Given};
 use crate::count::Counts;
 use crate::day::{self, Day, Peer};
 use crate::map;
@@ -82,14 +83,12 @@ fn day_end(day: &Day, peer: &Peer, worker: &mut Worker) -> Result<String, String
     Ok(text)
 }
 
-/// A memory, by its words that are not 0, and what each side made of it.
-pub fn memory(batch: &Batch, program: &Program, wrong: Wrong) -> String {
-    let variant = &batch.variants[0];
-    let words = &batch.base;
+/// A memory, by its words that are not 0.
+fn listed(words: &[u64], mode: u8, read: &str) -> String {
     let rule = memory::broken_rule(words).unwrap_or("none");
-    let mut text = "A memory of which the two sides think differently.\n\n".to_string();
-    text += &format!("{} words (room for {} places). ", words.len(), memory::room(words.len()));
-    text += &lent(batch.mode, "the line");
+    let mut text =
+        format!("{} words (room for {} places). ", words.len(), memory::room(words.len()));
+    text += &lent(mode, read);
     text += &format!("State rule that is broken, by the peer: {rule}.\n");
     text +=
         &format!("All words are 0 but {} of them:\n", words.iter().filter(|w| **w != 0).count());
@@ -99,6 +98,15 @@ pub fn memory(batch: &Batch, program: &Program, wrong: Wrong) -> String {
         let shown = bytes[..end].escape_ascii();
         text += &format!("{i:7}  {word:20}  {:30} \"{shown}\"\n", map::name(i, words.len()));
     }
+    text
+}
+
+/// A memory, and what each side made of it.
+pub fn memory(batch: &Batch, program: &Program, wrong: Wrong) -> String {
+    let variant = &batch.variants[0];
+    let words = &batch.base;
+    let mut text = "A memory of which the two sides think differently.\n\n".to_string();
+    text += &listed(words, batch.mode, "the line");
     let line = variant.line.escape_ascii();
     text += &format!("\nrecord \"{line}\" (buffer of {}), then ", variant.size);
     text += &format!("closing line {} (buffer of {})\n", variant.place, variant.closing_size);
@@ -166,6 +174,39 @@ pub fn messages(batch: &messages::Batch, first: &str, program: &Program, wrong: 
             }
             Err(()) => format!("      peer: {}\n", call.text(&theirs, &theirs)),
         };
+    }
+    text
+}
+
+/// Blocks of lines over a memory, and what each side made of them.
+pub fn blocks(batch: &blocks::Batch, first: &str, program: &Program, wrong: Wrong) -> String {
+    let mut text = format!("Blocks on which the two sides differ. First seen as\n{first}\n\n");
+    text += &listed(&batch.base, batch.mode, "the block");
+    let ours = Worker::start(program).map_err(|error| error.to_string()).and_then(|mut worker| {
+        worker.send(batch.lend());
+        worker.send(batch.ask());
+        worker.reply()?;
+        worker.reply()
+    });
+    let mut ours = ours.map_err(|stopped| text += &format!("   library: {stopped}\n"));
+    let mut words = batch.base.clone();
+    for call in &batch.calls {
+        call.begin(&batch.base, &mut words);
+        let theirs = call.peer(&mut words, batch.pattern, wrong);
+        let lent = call.text.escape_ascii();
+        text += &format!("\n\"{lent}\" (buffer of {})\n", call.size);
+        let given = ours.as_mut().ok().map(Given::read);
+        for of in [
+            |given: &Given, _: usize| given.answer.text(),
+            |given: &Given, _: usize| given.taken(),
+            |given: &Given, words: usize| format!("changed: {}", changes(&given.changed, words)),
+        ] {
+            let theirs = of(&theirs, words.len());
+            text += &match &given {
+                Some(given) => sides(&Ok(of(given, words.len())), &theirs),
+                None => format!("      peer: {theirs}\n"),
+            };
+        }
     }
     text
 }

@@ -8,6 +8,7 @@ use std::time::{Duration, Instant};
 use peer::days::Plan;
 use peer::memory::MOST_PLACES;
 
+use crate::blocks::{self, Ends};
 use crate::count::Counts;
 use crate::day::{self, Day};
 use crate::lengths;
@@ -17,6 +18,7 @@ use crate::orders;
 use crate::report;
 use crate::shrink::Shrinker;
 use crate::states::{self, Kind, LENGTHS, VARIANTS};
+use crate::texts;
 use crate::worker::{Program, Worker};
 use crate::wrong::Wrong;
 use crate::Difference;
@@ -40,6 +42,9 @@ enum Task {
     Memories { index: u64, kind: Kind, variants: usize },
     Sweep(usize),
     Messages { index: u64, calls: usize },
+    BlockSweep(usize),
+    BlockDay { index: u64, most: usize },
+    BlockMemories { index: u64, kind: Kind, variants: usize },
 }
 
 /// All comparisons of a run.
@@ -50,6 +55,8 @@ pub struct Work {
     records: u64,
     memories: u64,
     messages: u64,
+    /// Lines of days in blocks.
+    lines: u64,
 }
 
 impl Work {
@@ -57,17 +64,13 @@ impl Work {
     pub fn plan(seed: u64, records: usize, memories: usize) -> Work {
         let mut tasks = vec![Task::Sizes, Task::Fresh];
         tasks.extend((0..lengths::PARTS).map(Task::Lengths));
-        tasks.extend(memory_tasks(memories));
-        let mut left = records;
-        let mut days = 0;
-        while left > 0 {
-            let most = Plan::new(seed, days).lines.min(left);
-            tasks.push(Task::Day { index: days, most });
-            left -= most;
-            days += 1;
-        }
+        let memory = |(index, kind, variants)| Task::Memories { index, kind, variants };
+        tasks.extend(of_memories(memories).map(memory));
+        let first = tasks.len();
+        tasks.extend(of_days(seed, records).map(|(index, most)| Task::Day { index, most }));
+        let days = tasks.len() - first;
         let (records, memories) = (records as u64, memories as u64);
-        Work { tasks, days: days as usize, records, memories, messages: 0 }
+        Work { tasks, days, records, memories, ..Work::default() }
     }
 
     /// The same, and order messages: every length and every byte, and so many that are drawn.
@@ -80,9 +83,31 @@ impl Work {
         self.messages += messages as u64;
         self
     }
+
+    /// The same, and blocks: every buffer and every cut, days with so many lines, and so many
+    /// memories.
+    pub fn and_blocks(mut self, seed: u64, lines: usize, memories: usize) -> Work {
+        self.tasks.extend((0..texts::PARTS).map(Task::BlockSweep));
+        let memory = |(index, kind, variants)| Task::BlockMemories { index, kind, variants };
+        self.tasks.extend(of_memories(memories).map(memory));
+        let day = |(index, most)| Task::BlockDay { index, most };
+        self.tasks.extend(of_days(seed, lines).map(day));
+        self.lines += lines as u64;
+        self
+    }
 }
 
-fn memory_tasks(memories: usize) -> Vec<Task> {
+/// The days that have so many lines: their indices, and how many lines of each.
+fn of_days(seed: u64, mut lines: usize) -> impl Iterator<Item = (u64, usize)> {
+    (0..).map_while(move |index| {
+        let most = Plan::new(seed, index).lines.min(lines);
+        lines -= most;
+        (most > 0).then_some((index, most))
+    })
+}
+
+/// So many memories: indices, kinds and variants.
+fn of_memories(memories: usize) -> impl Iterator<Item = (u64, Kind, usize)> {
     let mut kinds = Vec::new();
     if memories >= 20_000 {
         kinds.extend([(Kind::Places(MOST_PLACES), 6), (Kind::Places(20_000), 6)]);
@@ -93,9 +118,8 @@ fn memory_tasks(memories: usize) -> Vec<Task> {
             }
         }
     }
-    let mut tasks = Vec::new();
     let mut left = memories;
-    for index in 0.. {
+    (0..).map_while(move |index: usize| {
         let (kind, variants) = match kinds.get(index) {
             Some(&kind) => kind,
             None if index % 16 == 7 => (Kind::Random, VARIANTS),
@@ -106,13 +130,9 @@ fn memory_tasks(memories: usize) -> Vec<Task> {
             None => (Kind::Day, VARIANTS),
         };
         let variants = variants.min(left);
-        if variants == 0 {
-            break;
-        }
-        tasks.push(Task::Memories { index: index as u64, kind, variants });
         left -= variants;
-    }
-    tasks
+        (variants > 0).then_some((index as u64, kind, variants))
+    })
 }
 
 /// What failed.
@@ -120,6 +140,7 @@ pub enum Case {
     Day(Day),
     Memory(Batch, Option<usize>),
     Message(messages::Batch, Option<usize>),
+    Block(blocks::Batch, Option<usize>),
     /// A call about lengths; there is nothing to make smaller.
     Lengths,
 }
@@ -136,6 +157,7 @@ pub struct Met {
     pub counts: Counts,
     pub tally: Tally,
     pub answers: Answers,
+    pub ends: Ends,
 }
 
 /// What came of a run.
@@ -152,6 +174,7 @@ struct Shared {
     records: AtomicU64,
     memories: AtomicU64,
     messages: AtomicU64,
+    lines: AtomicU64,
     found: Mutex<Vec<Found>>,
 }
 
@@ -174,6 +197,7 @@ pub fn run(settings: &Settings, work: &Work) -> Result<Outcome, String> {
                     outcome.met.counts.merge(&met.counts);
                     outcome.met.tally.merge(&met.tally);
                     outcome.met.answers.merge(&met.answers);
+                    outcome.met.ends.merge(&met.ends);
                 }
                 Ok(Err(text)) => failed = Some(text),
                 Err(_) => failed = Some("a thread of the harness failed".to_string()),
@@ -194,13 +218,13 @@ fn tell(work: &Work, shared: &Shared) {
         thread::sleep(Duration::from_millis(100));
         if told.elapsed() >= Duration::from_secs(5) {
             told = Instant::now();
-            let done = [&shared.records, &shared.memories, &shared.messages];
-            let [records, memories, messages] = done.map(|n| n.load(Relaxed));
+            let done = [&shared.records, &shared.memories, &shared.messages, &shared.lines];
+            let [records, memories, messages, lines] = done.map(|n| n.load(Relaxed));
             let seconds = begun.elapsed().as_secs();
             eprintln!(
                 "{records} of {} records, {memories} of {} memories, {messages} of {} messages, \
-                 {seconds} s",
-                work.records, work.memories, work.messages
+                 {lines} of {} lines in blocks, {seconds} s",
+                work.records, work.memories, work.messages, work.lines
             );
         }
     }
@@ -221,6 +245,7 @@ fn serve(settings: &Settings, work: &Work, shared: &Shared) -> Result<Met, Strin
             Task::Day { most, .. } => shared.records.fetch_add(most as u64, Relaxed),
             Task::Memories { variants, .. } => shared.memories.fetch_add(variants as u64, Relaxed),
             Task::Messages { calls, .. } => shared.messages.fetch_add(calls as u64, Relaxed),
+            Task::BlockDay { most, .. } => shared.lines.fetch_add(most as u64, Relaxed),
             _ => 0,
         };
         if let Err((case, difference)) = result {
@@ -268,7 +293,22 @@ fn compare(
             messages::compare(&batch, worker, wrong, &mut met.answers)
                 .map_err(|(which, d)| (Case::Message(batch, which), d))
         }
+        Task::BlockSweep(part) => block(texts::sweep(part), wrong, worker, met),
+        Task::BlockDay { index, most } => block(texts::day(seed, index, most), wrong, worker, met),
+        Task::BlockMemories { index, kind, variants } => {
+            block(texts::memories(seed, index, kind, variants), wrong, worker, met)
+        }
     }
+}
+
+fn block(
+    batch: blocks::Batch,
+    wrong: Wrong,
+    worker: &mut Worker,
+    met: &mut Met,
+) -> Result<(), (Case, Difference)> {
+    blocks::compare(&batch, worker, wrong, &mut met.ends)
+        .map_err(|(which, d)| (Case::Block(batch, which), d))
 }
 
 /// The smallest input that fails, as far as one is found.
@@ -281,6 +321,7 @@ pub fn shrink(settings: &Settings, found: &Found) -> Case {
             None => Case::Memory(batch.clone(), *which),
         },
         Case::Message(batch, which) => Case::Message(shrinker.messages(batch, *which), None),
+        Case::Block(batch, which) => Case::Block(shrinker.blocks(batch, *which), None),
         Case::Lengths => Case::Lengths,
     }
 }
@@ -304,6 +345,7 @@ pub fn report(settings: &Settings, found: &Found, least: &Case) -> String {
         Case::Message(batch, _) => {
             report::messages(batch, first, &settings.program, settings.wrong)
         }
+        Case::Block(batch, _) => report::blocks(batch, first, &settings.program, settings.wrong),
         Case::Lengths => format!("{first}\n"),
     }
 }

@@ -5,6 +5,7 @@ use peer::memory;
 use peer::message::{BYTES, WORDS};
 
 use crate::alter::book_order;
+use crate::blocks::{self, Ends};
 use crate::count::Counts;
 use crate::day::{self, Day, Step};
 use crate::map::{self, Region};
@@ -14,6 +15,10 @@ use crate::orders::{plain_house, plain_message, PLAIN_LINE};
 use crate::worker::{Program, Worker};
 use crate::wrong::Wrong;
 use crate::Difference;
+
+/// Lines are left out of a block that does not have more, and bytes of one that does not.
+const MOST_LINES: usize = 5_000;
+const MOST_BYTES: usize = 100;
 
 /// Every try has a worker of its own.
 pub struct Shrinker<'a> {
@@ -146,9 +151,9 @@ impl Shrinker<'_> {
     /// The least words, places, groups and symbols, and the shortest memory.
     pub fn memory(&self, batch: &Batch, which: Option<usize>) -> Option<Batch> {
         let mut least = self.single(batch, which)?;
-        let with_words = |words: Vec<u64>, least: &Batch| {
+        let with_words = |words: &[u64], least: &Batch| {
             let variant = Variant { count: words.len(), ..least.variants[0].clone() };
-            Batch { base: words, variants: vec![variant], ..*least }
+            Batch { base: words.to_vec(), variants: vec![variant], ..*least }
         };
         // Without the record, without the closing line.
         let mut tried = least.clone();
@@ -170,37 +175,52 @@ impl Shrinker<'_> {
         };
         let line = frame.variants[0].line.clone();
         least = with_line(&fewest(line, |line| self.batch_fails(&with_line(line))));
-        // Fewer rows.
-        for region in [Region::Key, Region::Symbol, Region::Group] {
-            if least.base.len() < memory::LEAST_WORDS {
-                break;
-            }
-            let rows: Vec<usize> = (0..region.used(&least.base)).collect();
-            let frame = least.clone();
-            let keep = |rows: &[usize]| with_words(keep_rows(&frame.base, region, rows), &frame);
-            let rows = fewest(rows, |rows| self.batch_fails(&keep(rows)));
-            if rows.len() < region.used(&least.base) {
-                least = keep(&rows);
-            }
-        }
-        // A shorter memory.
-        let count = least.base.len();
-        for shorter in [0, 1, 1_668, 1_669, 1_686, 1_703, memory::words(memory::room(count))] {
-            let tried = with_words(map::resize(&least.base, shorter), &least);
-            if shorter < count && self.batch_fails(&tried) {
-                least = tried;
-                break;
-            }
-        }
-        // Zeros.
-        let used: Vec<usize> = (0..least.base.len()).filter(|&i| least.base[i] != 0).collect();
-        let frame = least.clone();
-        let only = |kept: &[usize]| {
-            let mut words = vec![0; frame.base.len()];
-            kept.iter().for_each(|&i| words[i] = frame.base[i]);
-            with_words(words, &frame)
+        let words = least_words(&least.base, |words| self.batch_fails(&with_words(words, &least)));
+        Some(with_words(&words, &least))
+    }
+
+    fn blocks_fail(&self, batch: &blocks::Batch) -> bool {
+        let Ok(mut worker) = Worker::start(self.program) else {
+            return false;
         };
-        Some(only(&fewest(used, |kept| self.batch_fails(&only(kept)))))
+        blocks::compare(batch, &mut worker, self.wrong, &mut Ends::default()).is_err()
+    }
+
+    /// One block over the words that it begins from, with the fewest lines and words; the calls
+    /// up to it, if it does not fail alone.
+    pub fn blocks(&self, batch: &blocks::Batch, which: Option<usize>) -> blocks::Batch {
+        // The fewest calls that fail.
+        let (mut low, mut high) = (0, batch.calls.len() - 1);
+        while which.is_none() && low < high {
+            let middle = (low + high) / 2;
+            match self.blocks_fail(&batch.first(middle + 1)) {
+                true => high = middle,
+                false => low = middle + 1,
+            }
+        }
+        let which = which.unwrap_or(low);
+        let frame = batch.alone(which);
+        if !self.blocks_fail(&frame) {
+            return batch.first(which + 1);
+        }
+        let with = |words: &[u64], text: &[u8], size: usize| {
+            let calls = vec![blocks::Call::over(words.len(), text, size)];
+            blocks::Batch { base: words.to_vec(), calls, ..frame }
+        };
+        let fails = |words: &[u64], text: &[u8], size| self.blocks_fail(&with(words, text, size));
+        let (words, call) = (&frame.base, &frame.calls[0]);
+        let mut lines: Vec<&[u8]> = call.text.split_inclusive(|&b| b == b'\n').collect();
+        if lines.len() <= MOST_LINES {
+            lines = fewest(lines, |lines| fails(words, &lines.concat(), call.size));
+        }
+        let mut text = lines.concat();
+        if text.len() <= MOST_BYTES {
+            text = fewest(text, |text| fails(words, text, call.size));
+        }
+        let shorter = [0, 1, 32, 33, 42, 43, 64, 512].into_iter().filter(|&size| size < call.size);
+        let size = shorter.into_iter().find(|&size| fails(words, &text, size));
+        let size = size.unwrap_or(call.size);
+        with(&least_words(words, |words| fails(words, &text, size)), &text, size)
     }
 
     fn messages_fail(&self, batch: &messages::Batch) -> bool {
@@ -243,6 +263,37 @@ impl Shrinker<'_> {
             _ => with(&calls),
         }
     }
+}
+
+/// Fewer rows, a shorter memory, and zeros.
+fn least_words(words: &[u64], fails: impl Fn(&[u64]) -> bool) -> Vec<u64> {
+    let mut least = words.to_vec();
+    for region in [Region::Key, Region::Symbol, Region::Group] {
+        if least.len() < memory::LEAST_WORDS {
+            break;
+        }
+        let rows: Vec<usize> = (0..region.used(&least)).collect();
+        let keep = |rows: &[usize]| keep_rows(&least, region, rows);
+        let rows = fewest(rows, |rows| fails(&keep(rows)));
+        if rows.len() < region.used(&least) {
+            least = keep(&rows);
+        }
+    }
+    let count = least.len();
+    for shorter in [0, 1, 1_668, 1_669, 1_686, 1_703, memory::words(memory::room(count))] {
+        let tried = map::resize(&least, shorter);
+        if shorter < count && fails(&tried) {
+            least = tried;
+            break;
+        }
+    }
+    let used: Vec<usize> = (0..least.len()).filter(|&i| least[i] != 0).collect();
+    let only = |kept: &[usize]| {
+        let mut words = vec![0; least.len()];
+        kept.iter().for_each(|&i| words[i] = least[i]);
+        words
+    };
+    only(&fewest(used, |kept| fails(&only(kept))))
 }
 
 /// A plain message, or the bytes with as many as can be replaced by its bytes.

@@ -10,7 +10,7 @@ use peer::memory::{self, LEAST_WORDS, MOST_PLACES, PLACE_WORDS};
 
 use crate::alter::{break_word, counts, odd, pair};
 use crate::map::{self, REGIONS};
-use crate::memories::{Batch, Variant};
+use crate::memories::{changed, Batch, Variant};
 use crate::worker::{AT_START, LINE_READ_ONLY, WORDS_READ_ONLY};
 
 /// Variants of one base.
@@ -104,7 +104,7 @@ fn good(rng: &mut Rng, room: usize, spare: usize) -> Vec<u64> {
 }
 
 /// Puts anything into the words that are not in use.
-fn fill_free(rng: &mut Rng, words: &mut [u64]) {
+pub fn fill_free(rng: &mut Rng, words: &mut [u64]) {
     let way = rng.below(5);
     let (count, room) = (words.len(), memory::room(words.len()));
     for region in REGIONS {
@@ -170,8 +170,7 @@ fn variant(rng: &mut Rng, base: &[u64], kind: Kind, i: usize, met: &mut Met) -> 
             _ => counts(rng, &mut words),
         },
     }
-    let pairs = base.iter().zip(&words).enumerate();
-    let pokes = pairs.filter(|(_, (a, b))| a != b).map(|(i, (_, &b))| (i as u32, b)).collect();
+    let pokes = changed(base, &words);
     let mut book = map::book(&words[..count]);
     // Lines about the place that was changed.
     if let Some(place) = focus.and_then(|place| book.places.get(place).cloned()) {

@@ -6,6 +6,7 @@ use std::process::ExitCode;
 use std::time::Duration;
 
 use crate::count::numbers;
+use crate::lapse;
 use crate::messages::Call;
 use crate::orders::{plain_house, plain_message};
 use crate::run::{self, Case, Settings, Work};
@@ -30,11 +31,12 @@ fn peer_side() -> Vec<(Wrong, String)> {
     ];
     let others = others.into_iter().map(|(wrong, what)| (wrong, what.to_string()));
     let slips = slip::all().into_iter().map(|(slip, what)| (Wrong::Message(slip), what));
-    numbers.chain(letters).chain(others).chain(slips).collect()
+    let lapses = lapse::ALL.map(|(lapse, what)| (Wrong::Block(lapse), what.to_string()));
+    numbers.chain(letters).chain(others).chain(slips).chain(lapses).collect()
 }
 
 /// What is wrong on the worker's side, by its argument.
-const WORKER_SIDE: [&str; 29] = [
+const WORKER_SIDE: [&str; 45] = [
     "a byte behind the line is read",
     "a byte before the words is read",
     "a byte behind the buffer is read",
@@ -64,10 +66,27 @@ const WORKER_SIDE: [&str; 29] = [
     "words are written to with 42",
     "words are written to with 43",
     "43 returned as 42",
+    "a byte behind a block is read",
+    "a byte before a block is read",
+    "a byte behind the buffer of a block is read",
+    "a byte behind the words for what is taken is read",
+    "a byte before the words for what is taken is read",
+    "a byte beside the words for what is taken is changed",
+    "a block is changed",
+    "a byte past the answers of a block is changed",
+    "the buffer of a block is written to with 21",
+    "the buffer of a block is written to with 22",
+    "what is taken is written to with 21",
+    "what is taken is written to with 22",
+    "a word is written to with a block's 21",
+    "a word is written to with a block's 22",
+    "a word past the last place is changed by a block",
+    "record calls answer otherwise than the block",
 ];
 
-/// The first of them that is about order messages.
+/// The first of them that are about order messages, and about blocks.
 const FIRST_OF_MESSAGES: u32 = 11;
+const FIRST_OF_BLOCKS: u32 = 30;
 
 /// Tries each; fails if one is not noticed. The smallest inputs are written to a file, if one
 /// is given.
@@ -99,6 +118,9 @@ pub fn all(program: &Program, seed: u64, to: Option<&Path>) -> Result<ExitCode, 
 fn one(settings: &Settings) -> Option<(String, String)> {
     let work = match (settings.wrong, settings.program.wrong) {
         (Wrong::Sums, _) => Work::plan(settings.seed, 0, 20_000),
+        (Wrong::Block(_), _) | (_, FIRST_OF_BLOCKS..) => {
+            Work::default().and_blocks(settings.seed, 20_000, 2_000)
+        }
         (Wrong::Message(_), _) | (_, FIRST_OF_MESSAGES..) => Work::default().and_messages(20_000),
         _ => Work::plan(settings.seed, 200_000, 0),
     };
@@ -119,6 +141,17 @@ fn one(settings: &Settings) -> Option<(String, String)> {
             }
             [Call::Read { message, .. }] => not_plain("message", message, &plain_message()),
             calls => format!("{} calls", calls.len()),
+        },
+        Case::Block(batch, _) => match &batch.calls[..] {
+            [call] => {
+                let words = batch.base.iter().filter(|word| **word != 0).count();
+                let bytes = match call.text.len() {
+                    1 => "1 byte".to_string(),
+                    bytes => format!("{bytes} bytes"),
+                };
+                format!("a block of {bytes} over a memory with {words} words that are not 0")
+            }
+            calls => format!("{} blocks", calls.len()),
         },
         Case::Lengths => "a call about lengths".to_string(),
     };

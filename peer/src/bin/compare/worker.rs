@@ -204,11 +204,16 @@ impl Reply {
         self.bytes[self.at..].as_chunks().0.iter().map(|&eight| u64::from_le_bytes(eight))
     }
 
+    /// Words that a call changed.
+    pub fn changed(&mut self) -> Vec<(u32, u64)> {
+        (0..self.u32()).map(|_| (self.u32(), self.u64())).collect()
+    }
+
     /// One answer of a call with a buffer.
     pub fn answer(&mut self) -> Answered {
         let (result, flags) = (self.i64(), self.u8());
-        let length = u16::from_le_bytes(self.array());
-        let bytes = self.bytes(usize::from(length)).to_vec();
+        let length = self.u32() as usize;
+        let bytes = self.bytes(length).to_vec();
         Answered { result, flags, bytes }
     }
 }
@@ -267,13 +272,14 @@ impl Answered {
 
     /// What was done beside the result, for people.
     pub fn beside(&self) -> String {
-        const FLAGS: [(u8, &str); 4] = [
-            (1, "the line or message"),
-            (2, "bytes beside a slice"),
-            (4, "the words"),
-            (8, "the house message"),
+        const FLAGS: [(u8, &str); 5] = [
+            (1, "the line, lines or message changed"),
+            (2, "bytes beside a slice changed"),
+            (4, "the words changed"),
+            (8, "the house message changed"),
+            (16, "record calls answer otherwise or leave other words"),
         ];
         let set = FLAGS.iter().filter(|(flag, _)| self.flags & flag != 0);
-        set.map(|(_, what)| format!(" (and {what} changed)")).collect()
+        set.map(|(_, what)| format!(" (and {what})")).collect()
     }
 }

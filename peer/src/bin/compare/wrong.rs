@@ -6,6 +6,7 @@ use peer::days::CEILING;
 use peer::gate::{Answer, Gate};
 use peer::{memory, message};
 
+use crate::lapse::Lapse;
 use crate::map::Region;
 use crate::slip::Slip;
 
@@ -34,6 +35,8 @@ pub enum Wrong {
     Sums,
     /// Order messages are written or read wrongly.
     Message(Slip),
+    /// Blocks of lines are taken wrongly.
+    Block(Lapse),
 }
 
 impl Wrong {
@@ -90,6 +93,14 @@ impl Wrong {
         match self {
             Wrong::Message(slip) => slip.read(message, to),
             _ => message::read(message, to),
+        }
+    }
+
+    /// Judges a block of lines.
+    pub fn block(self, mem: &mut [u64], text: &[u8], to: &mut [u8], taken: &mut [u64; 2]) -> i64 {
+        match self {
+            Wrong::Block(lapse) => lapse.block(mem, text, to, taken),
+            _ => memory::block(mem, text, to, taken),
         }
     }
 
