@@ -12,7 +12,7 @@ use lib.Dec.{eqb, leb}
 use borrow.Author.Tests.{eqb-true, eq-eqb, le-leb, lt-leb}
 use Rattle.laws.specs.Tests.{on}
 use Rattle.laws.specs.Numbered.{least, least-at, least-none, every, every-each, every-yes, every-no, apart, apart-each}
-use Rattle.chains.specs.Chain.{fresh, Alike, Linked, Walked, Met, walk-next, Chained, chain-kept}
+use Rattle.chains.specs.Chain.{fresh, Alike, Linked, Walked, Met, walk-next, walk-head, Chained, chain-kept}
 
 -- ── rows ──
 -- n rows of one width stand one after the other from a word on, and their first words are compared
@@ -97,6 +97,16 @@ unfolding begins hash-row
 begins-alike m at width l b words i e = same-hash m _ l b words (λ k lt. eqb-true _ _ (every-each _ words e k lt))
 
 -- ── rows found by the chains of their slots ──
+-- the link of the slot of a list's words
+unfoldable pub latest-of : List ℕ → List ℕ → ℕ
+latest-of l head = getD head (hash-words l 0 (length l) % length head) 0
+
+-- a walk to the row that begins with them starts there
+pub walk-latest : (m : List ℕ) (at width : ℕ) (l : List ℕ) {head next : List ℕ} {n : ℕ} → Chained (hash-row m at width (length l)) head next n →
+    Walked (hash-row m at width (length l)) (begins m at width l 0 (length l)) next n (latest-of l head)
+unfolding latest-of
+walk-latest m at width l c = walk-head (begins-alike m at width l 0 (length l)) c
+
 module _ (m : List ℕ) (at width words : ℕ) where
   -- the link of the j-th row, for a walk to an earlier row with its words
   pub walk-fresh : {next : List ℕ} {j : ℕ} → Linked (hash-row m at width words) next j → Walked (hash-row m at width words) (begins m at width m (at + j * width) words) next j (getD next j 0)

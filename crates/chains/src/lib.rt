@@ -7,10 +7,10 @@
 ghost use mathlib.Core.Path.{_≡_};
 ghost use mathlib.Core.Bool.{true};
 ghost use Prim.Native.Nat.{_+_, _≤_, _<_};
-ghost use lib.ListN.{length};
-ghost use Rattle.laws.specs.Numbered.{least, apart};
+ghost use lib.ListN.{length, getD};
+ghost use Rattle.laws.specs.Numbered.{apart};
 ghost use Rattle.chains.specs.Chain.{fresh, Linked, Walked, Met, Clear, Chained};
-ghost use Rattle.chains.specs.Words.{HasRows, same-words, same-row, begins, mixed, hash-words, hash-row};
+ghost use Rattle.chains.specs.Words.{HasRows, same-words, same-row, begins, mixed, hash-words, hash-row, latest-of};
 
 // One past the largest half of a word, and the factors by which a hash mixes the halves.
 const HALF: u64 = 4_294_967_296;
@@ -204,23 +204,19 @@ pub fn rows_apart(mem: &[u64], at: usize, width: usize, words: usize, n: usize) 
     large(mem, at, width, words, n)
 }
 
-// The row of the first n that begins with the words of the key, or n where none does. The arrays have the chains of these rows, no two of
-// which begin with the same words.
-pub fn find_row(
-    mem: &[u64],
-    at: usize,
-    width: usize,
-    key: &[u64],
-    n: usize,
-    head: &[u16],
-    next: &[u16],
-) -> usize
-    requires { ⌜ HasRows (now mem) at width (length (now key)) n ⌝ }
-    requires { ⌜ Chained (hash-row (now mem) at width (length (now key))) (now head) (now next) n ⌝ }
-    requires { ⌜ apart (same-row (now mem) at width (length (now key))) n ≡ true ⌝ }
-    ensures { λ r. ⌜ r ≡ least (begins (now (mem .entry)) at width (now (key .entry)) 0 (length (now (key .entry)))) n ⌝ }
+// The link of the slot of the key's words: one past its latest row, or 0.
+pub fn latest(key: &[u64], head: &[u16]) -> usize
+    requires { ⌜ 0 < length (now head) ⌝ }
+    ensures { λ r. ⌜ r ≡ latest-of (now (key .entry)) (now (head .entry)) ⌝ }
 {
-    let words = key.len();
-    let s = hash_at(key, 0, words) % head.len();
-    walk(mem, at, width, n, key, 0, words, next, wide(head[s]))
+    let s = hash_at(key, 0, key.len()) % head.len();
+    wide(head[s])
+}
+
+// The link of a row: one past the latest earlier row of its slot, or 0.
+pub fn earlier(next: &[u16], i: usize) -> usize
+    requires { ⌜ i < length (now next) ⌝ }
+    ensures { λ r. ⌜ r ≡ getD (now (next .entry)) i 0 ⌝ }
+{
+    wide(next[i])
 }

@@ -1,9 +1,9 @@
 -- The index of the table: chains of the taken places by the hash of their keys.
 use mathlib.Core.Path.{_≡_, refl, sym, ap, ap₂, _∙_, subst, fun-ext}
-use mathlib.Core.Bool.{Bool, true, _&&_, and-assoc}
+use mathlib.Core.Bool.{Bool, true, false, _&&_, and-assoc}
 use mathlib.Core.Option.{some, Option·some-injective}
 use mathlib.Core.List.{List, [], _∷_, _++_}
-use Prim.Native.Nat.{ℕ, zero, suc, _+_, _*_, _≤_, _<_}
+use Prim.Native.Nat.{ℕ, zero, suc, _+_, _*_, _-_, _≤_, _<_}
 use native.Mathlib.Omega.{arith}
 use lib.Dec.{eqb}
 use lib.ListN.{length, getD, getElem?, length-append}
@@ -16,8 +16,8 @@ use Rattle.rulebook.specs.Kept.{Asked, by-request}
 use Rattle.books.specs.Layout.{keys, base-of, width-of, places-at, owner-at, name-at, name-middle-at, name-tail-at}
 use Rattle.books.specs.View.{head-in, asked-of, same-place, books-in, rows-of, view}
 use Rattle.books.specs.Refining.{Counted}
-use Rattle.chains.specs.Chain.{Chained}
-use Rattle.chains.specs.Words.{HasRows, same-row, begins, hash-row, rows-kept}
+use Rattle.chains.specs.Chain.{Walked, Met, walk-step, walk-met, walk-end, Chained}
+use Rattle.chains.specs.Words.{HasRows, same-row, begins, hash-row, latest-of, walk-latest, met-least, rows-kept}
 use Rattle.store.specs.declared.Key.{Key as KeyWords}
 use Rattle.store.specs.Finding.{named-by, key-at, place-index}
 
@@ -35,7 +35,7 @@ places-same m = let same : ℕ → ℕ → ℕ → Bool = λ k i j. eqb (rows-of
 abbrev pub key-list : KeyWords → List ℕ
 key-list k = k .owner ∷ k .name .head ∷ k .name .middle ∷ k .name .tail ∷ []
 
-begins-key : (m : List ℕ) (k : KeyWords) → begins m (base-of keys) (width-of keys) (key-list k) 0 (width-of keys) ≡ (λ i. same-key (named-by k) (key-at (rows-of m) i))
+pub begins-key : (m : List ℕ) (k : KeyWords) → begins m (base-of keys) (width-of keys) (key-list k) 0 (width-of keys) ≡ (λ i. same-key (named-by k) (key-at (rows-of m) i))
 unfolding begins every
 begins-key m k = let S = rows-of m in
     fun-ext (λ i. four (eqb (S keys i owner-at) (k .owner)) (eqb (S keys i name-at) (k .name .head)) (eqb (S keys i name-middle-at) (k .name .middle)) (eqb (S keys i name-tail-at) (k .name .tail))
@@ -61,6 +61,30 @@ key-rows m c n le = record { few = omega (arith, c .few-places, c .most); most =
 pub rows-apart : {m heads links : List ℕ} → Indexed m heads links → apart (same-row m (base-of keys) (width-of keys) (width-of keys)) (head-in (rows-of m) places-at) ≡ true
 rows-apart {m} x = subst (λ t. apart t (head-in (rows-of m) places-at) ≡ true) (sym (places-same m)) (x .keys-apart)
 
+-- ── a search by the index ──
+-- it goes along the chain of the key's slot
+abbrev pub Seeks : List ℕ → KeyWords → List ℕ → ℕ → Type 0
+Seeks m k links link = Walked (key-hash m) (begins m (base-of keys) (width-of keys) (key-list k) 0 (width-of keys)) links (head-in (rows-of m) places-at) link
+
+pub seek-start : {m heads links : List ℕ} → Indexed m heads links → (k : KeyWords) → Seeks m k links (latest-of (key-list k) heads)
+seek-start {m} x k = walk-latest m (base-of keys) (width-of keys) (key-list k) (x .chained)
+
+module _ {m heads links : List ℕ} (x : Indexed m heads links) (k : KeyWords) {link : ℕ} (w : Seeks m k links link) where
+  -- the place at which it stands has the key, or has it not
+  pub seek-met : 0 < link → same-key (named-by k) (key-at (rows-of m) (link - 1)) ≡ true → link - 1 ≡ place-index (rows-of m) (named-by k)
+  seek-met pos e = sought (walk-met w pos (ap (λ t. t (link - 1)) (begins-key m k) ∙ e))
+    where
+      sought : {r : ℕ} → Met (begins m (base-of keys) (width-of keys) (key-list k) 0 (width-of keys)) (head-in (rows-of m) places-at) r → r ≡ place-index (rows-of m) (named-by k)
+      sought t = place-found m k (met-least m (base-of keys) (width-of keys) (width-of keys) (key-list k) 0 (head-in (rows-of m) places-at) (rows-apart x) t)
+
+  pub seek-on : 0 < link → same-key (named-by k) (key-at (rows-of m) (link - 1)) ≡ false → Seeks m k links (getD links (link - 1) 0)
+  seek-on pos e = walk-step w pos (ap (λ t. t (link - 1)) (begins-key m k) ∙ e)
+
+  -- at the end of the chain no place has it
+  pub seek-end : link ≡ 0 → head-in (rows-of m) places-at ≡ place-index (rows-of m) (named-by k)
+  seek-end z = place-found m k (met-least m (base-of keys) (width-of keys) (width-of keys) (key-list k) 0 (head-in (rows-of m) places-at) (rows-apart x) (walk-end w (omega arith)))
+
+-- ── the index made ──
 -- it is made by `chains::chain_rows` over the keys, where that answers true
 pub indexed : {m heads links : List ℕ} → apart (same-row m (base-of keys) (width-of keys) (width-of keys)) (head-in (rows-of m) places-at) ≡ true → Chained (key-hash m) heads links (head-in (rows-of m) places-at) → Indexed m heads links
 indexed {m} e c = record { keys-apart = subst (λ t. apart t (head-in (rows-of m) places-at) ≡ true) (places-same m) e; chained = c }

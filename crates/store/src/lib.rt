@@ -3,6 +3,7 @@ ghost use mathlib.Core.Path.{_≡_};
 ghost use Prim.Native.Nat.{_+_, _≤_, _<_};
 ghost use lib.ListN.{length};
 ghost use lib.Seq.{sets};
+ghost use Rattle.rulebook.specs.Names.{same-key};
 ghost use Rattle.books.specs.Layout.{room-for, room-of, request-start, order-start, HasKeys};
 ghost use Rattle.books.specs.View.{rows-of};
 ghost use Rattle.books.specs.Refining.{Counted};
@@ -105,23 +106,48 @@ pub fn key_at(mem: &[u64], i: usize) -> Key
     }
 }
 
-// The place with the key, or the first free one, or that the table is full. The index has the places' keys: heads is of any length but 0,
-// and links at least as long as there are places taken.
+// Whether a place has the key: its words are compared where they stand.
+fn has_key(mem: &[u64], i: usize, key: Key) -> bool
+    requires { ⌜ HasKeys (now mem) (i + 1) ⌝ }
+    ensures { λ r. ⌜ r ≡ same-key (named-by key) (key-at (rows-of (now (mem .entry))) i) ⌝ }
+{
+    let b = books::KEYS + i * books::KEY_WORDS;
+    if key.owner != mem[b + books::OWNER] {
+        return false;
+    }
+    if key.name.head != mem[b + books::NAME] {
+        return false;
+    }
+    if key.name.middle != mem[b + books::NAME_MIDDLE] {
+        return false;
+    }
+    key.name.tail == mem[b + books::NAME_TAIL]
+}
+
+// The place with the key, or the first free one, or that the table is full. Only the places of the key's slot are looked at, the latest first:
+// heads and links are the table's index.
 pub fn find_place(mem: &[u64], heads: &[u16], links: &[u16], key: Key) -> Found
     requires { ⌜ Counted (now mem) ⌝ }
     requires { ⌜ Indexed (now mem) (now heads) (now links) ⌝ }
     ensures { λ r. ⌜ r ≡ found-place (rows-of (now (mem .entry))) (room-of (now (mem .entry))) (named-by key) ⌝ }
 {
     let n = mem[books::PLACES_TAKEN] as usize;
+    let places = room(mem.len());
     let words = [key.owner, key.name.head, key.name.middle, key.name.tail];
-    let place = chains::find_row(mem, books::KEYS, books::KEY_WORDS, &words, n, heads, links);
-    if place < n {
-        return Found::At(place);
+    let mut link = chains::latest(&words, heads);
+    loop {
+        if link == 0 {
+            if n < places {
+                break Found::Free(n);
+            }
+            break Found::Full;
+        }
+        let place = link - 1;
+        if has_key(mem, place, key) {
+            break Found::At(place);
+        }
+        link = chains::earlier(links, place);
     }
-    if n < room(mem.len()) {
-        return Found::Free(n);
-    }
-    Found::Full
 }
 
 // What making a fresh state answers: done, or that the memory is too short for groups and symbols (23).
