@@ -170,20 +170,22 @@ block-clear m ls b e = elim (decLt (length b) 32) [
 
 -- ── what is written has room, and where an answer line more has room no line is left ──
 pub record Ran (ls : List (List ℕ)) (b : List ℕ) (t : Block) : Type 0 where
+  pub number : t .number ≡ 0
   pub within : t .written ≤ length b
   pub all-taken : 32 + t .written ≤ length b → t .lines ≡ length ls
   pub some-taken : 1 ≤ t .written → 1 ≤ t .lines
 
 pub ran : (m : List ℕ) → state-ok m ≡ true → (ls : List (List ℕ)) (b : List ℕ) → Ran ls b (one-by-one m ls b)
-ran m ok [] b = rw (no-line m b) (record { within = omega arith; all-taken = λ h. refl; some-taken = λ h. absurd (omega arith) })
+ran m ok [] b = rw (no-line m b) (record { number = refl; within = omega arith; all-taken = λ h. refl; some-taken = λ h. absurd (omega arith) })
 ran m ok (l ∷ ls) b = elim (decLt (length b) 32) [
-  | yes h ↦ rw (no-room m (l ∷ ls) b h) (record { within = omega arith; all-taken = λ r. absurd (omega arith); some-taken = λ r. absurd (omega arith) })
+  | yes h ↦ rw (no-room m (l ∷ ls) b h) (record { number = refl; within = omega arith; all-taken = λ r. absurd (omega arith); some-taken = λ r. absurd (omega arith) })
   | no h ↦ let room : 32 ≤ length b = omega (arith, h) in
       let n = length (answer-to m l) in
       let still = subst (λ (r : Recorded). state-ok (r .memory) ≡ true) (judged-line m l b room ok) (state-kept m l b ok) in
       let w = ran (write (verdict-on m l .edit) m) still ls (drop n b) in
       let short = answer-written m l ok .1 in
       rw (line-answered m l b ok room ls) (record {
+        number = w .number;
         within = omega (arith, w .within, length-drop n b, short);
         all-taken = λ r. let e = w .all-taken (rw length-drop (omega arith)) in omega (arith, e);
         some-taken = λ r. omega arith;

@@ -1,7 +1,7 @@
 -- What a call says, told as one number: that it fits an i64, and that it is what the call below says.
 use mathlib.Core.Path.{_≡_, refl, sym, ap, _∙_, subst}
 use mathlib.Core.Bool.{Bool, true, false, cond}
-use mathlib.Core.List.{List}
+use mathlib.Core.List.{List, []}
 use Prim.Native.Nat.{ℕ, zero, suc, _+_, _*_, _≤_, _<_, _^_}
 use native.Mathlib.Omega.{arith}
 use native.Mathlib.Decide.{decLt}
@@ -13,11 +13,12 @@ use Rattle.laws.specs.Tests.{on, opt, split}
 use Rattle.laws.specs.Checks.{first, first-then}
 use Rattle.books.specs.Layout.{least-words, place-words, room-for}
 use Rattle.rules.specs.Testing.{state-ok}
+use Rattle.lines.specs.Splitting.{whole}
 use Rattle.fields.specs.Out.{Said, refuses, begun}
 use Rattle.calls.specs.Calling.{wrote, answer-said, closing-said, answer-to, Recorded, record-left, recorded, Closing, closing-left, closing-of, closed, group-at}
 use Rattle.calls.specs.Keeping.{short-buffer, bad-state, judged-line, answer-written, closing-short-buffer, closing-bad-state, closing-unlisted, closing-line-of, closing-written}
 use Rattle.calls.specs.Blocks.{Block, blocked, took, block-left}
-use Rattle.calls.specs.Taking.{written-within}
+use Rattle.calls.specs.Taking.{block-short, block-bad, block-judged, ran, written-within}
 use Rattle.calls.specs.declared.Answered.{Answered}
 use Rattle.calls.specs.declared.Taken.{Taken}
 use Rattle.calls.specs.declared.Closed.{Closed}
@@ -75,6 +76,15 @@ module _ (m l b : List ℕ) {m' b' : List ℕ} {x : Answered} where
   record-fits n q p = let e : n ≡ recorded m l b .said .bytes = ap (λ z. answer-said z .bytes) (sym q) ∙ ap (λ (r : Recorded). r .said .bytes) p in omega (arith, e, record-said m l b (λ x. x .bytes ≤ 32) (λ n. omega arith) (λ cs h. h))
 
 -- ── a block ──
+-- THEOREM. The number tells what a block is refused by, or how much it wrote
+pub block-heard : (m l b : List ℕ) → heard (told (block-said (blocked m l b))) ≡ block-said (blocked m l b)
+block-heard m l b = elim (decLt (length b) 32) [
+  | yes h ↦ rw (block-short m (whole [] l) b h) refl
+  | no h ↦ let room : 32 ≤ length b = omega (arith, h) in
+      on (λ t. state-ok m ≡ t → heard (told (block-said (blocked m l b))) ≡ block-said (blocked m l b)) (state-ok m)
+      (λ z e. rw (block-judged m (whole [] l) b room e, ran m e (whole [] l) b .number) refl) (λ z e. rw (block-bad m (whole [] l) b room e) refl) refl
+]
+
 -- its answer told, what it leaves, and that it fits
 module _ (m l b : List ℕ) {m' b' : List ℕ} {x : Taken} (y : Taken) (q : x ≡ y) (p : block-left (took x) m' b' ≡ blocked m l b) where
   same-block : block-left (took y) m' b' ≡ blocked m l b
