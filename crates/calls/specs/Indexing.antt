@@ -30,7 +30,7 @@ most-enough true m c = (omega arith, omega (arith, c .few-places, c .most))
 most-enough false m c = (c .few-places, omega (arith, c .most))
 
 pub clear-less : {heads links : List ℕ} {n k : ℕ} → n ≤ k → Clear heads links k → Clear heads links n
-clear-less le c = record { some = c .some; long = omega (arith, c .long); unset = c .unset }
+clear-less le c = record { some = c .some; few = c .few; long = omega (arith, c .long); unset = c .unset }
 
 -- chains of the first n places, which are all, or all but the last
 pub record Linkable (m : List ℕ) (n : ℕ) (heads links : List ℕ) : Type 0 where

@@ -1,12 +1,12 @@
 -- Chains of the numbers of one slot, and the laws by which a walk along one finds those that pass a test, or that none does.
--- Of the test and the hash these laws ask one thing, `Alike`.
+-- Of the test and the hash these laws ask `Alike`, and that a hash is below `half`.
 use mathlib.Core.Path.{_≡_, refl, ap, sym, _∙_}
 use mathlib.Core.Bool.{Bool, true, false, not}
 use mathlib.Core.List.{List}
-use Prim.Native.Nat.{ℕ, zero, _+_, _-_, _%_, _≤_, _<_}
+use Prim.Native.Nat.{ℕ, zero, _+_, _-_, _*_, _/_, _^_, _≤_, _<_}
 use native.Mathlib.Omega.{arith}
 use native.Mathlib.Decide.{decLt}
-use native.Mathlib.Nat.{mod-lt}
+use native.Mathlib.Nat.{mul-le-mul-left, mul-lt-mul-of-pos-right}
 use lib.Dec.{eqb}
 use lib.ListN.{length, getD, set, replicate, getD-replicate, length-replicate, length-set}
 use lib.Seq.{getD-set-same, getD-set-other}
@@ -27,9 +27,24 @@ unfolding apart
 one-stale t n j lt e = every-no _ n j lt e
 
 -- ── links ──
--- the slot of a number, of d slots
+-- one past the largest half of a word, which a hash is
+abbrev pub half : ℕ
+half = 4_294_967_296
+
+-- the slot of a hash, of d slots
+abbrev pub slot-of : ℕ → ℕ → ℕ
+slot-of d h = h * d / half
+
+module _ {h d : ℕ} (small : h < half) where
+  pub slot-lt : 0 < d → slot-of d h < d
+  slot-lt pos = omega (arith, mul-lt-mul-of-pos-right small pos)
+
+  pub slot-fits : d ≤ half → h * d < 2 ^ 64
+  slot-fits few = omega (arith, mul-le-mul-left h few)
+
+-- the slot of a number
 abbrev pub slot : (ℕ → ℕ) → ℕ → ℕ → ℕ
-slot hash d i = hash i % d
+slot hash d i = slot-of d (hash i)
 
 -- of the numbers below b, q is one past the last of the slot s, or 0
 pub record Link (hash : ℕ → ℕ) (d s b q : ℕ) : Type 0 where
@@ -58,7 +73,7 @@ pub record Walked (hash : ℕ → ℕ) (p : ℕ → Bool) (next : List ℕ) (n q
   pub nexts : Nexts hash slots next n
   pub room : n ≤ length next
   pub below : q ≤ n
-  pub on-slot : (i : ℕ) → q ≡ i + 1 → slot hash slots i ≡ aim % slots
+  pub on-slot : (i : ℕ) → q ≡ i + 1 → slot hash slots i ≡ slot-of slots aim
   pub passed : (i : ℕ) → q ≤ i → i < n → p i ≡ false
 
 -- what it comes to: a number below n that passes, or n where none does
@@ -68,11 +83,11 @@ pub record Met (p : ℕ → Bool) (n r : ℕ) : Type 0 where
   pub none : n ≤ r → (i : ℕ) → i < n → p i ≡ false
 
 module _ {hash : ℕ → ℕ} {p : ℕ → Bool} where
-  other-slot : {h : ℕ} → Alike hash p h → (d i : ℕ) → (slot hash d i ≡ h % d → ⊥) → p i ≡ false
-  other-slot alike d i ne = on (λ b. p i ≡ b → b ≡ false) (p i) (λ z e. absurd (ne (ap (λ (h : ℕ). h % d) (alike i e)))) (λ z e. refl) refl
+  other-slot : {h : ℕ} → Alike hash p h → (d i : ℕ) → (slot hash d i ≡ slot-of d h → ⊥) → p i ≡ false
+  other-slot alike d i ne = on (λ b. p i ≡ b → b ≡ false) (p i) (λ z e. absurd (ne (ap (slot-of d) (alike i e)))) (λ z e. refl) refl
 
   module _ {next : List ℕ} {n q : ℕ} where
-    walk-start : {d h : ℕ} → Alike hash p h → Nexts hash d next n → n ≤ length next → Link hash d (h % d) n q → Walked hash p next n q
+    walk-start : {d h : ℕ} → Alike hash p h → Nexts hash d next n → n ≤ length next → Link hash d (slot-of d h) n q → Walked hash p next n q
     walk-start {d} {h} alike nexts room l =
         record { slots = d; aim = h; alike = alike; nexts = nexts; room = room; below = l .below; on-slot = l .on-slot; passed = λ i le lt. other-slot alike d i (l .skipped i le lt) }
 
@@ -87,7 +102,7 @@ module _ {hash : ℕ → ℕ} {p : ℕ → Bool} where
       pub walk-step : 0 < q → p (q - 1) ≡ false → Walked hash p next n (getD next (q - 1) 0)
       walk-step pos other =
           let l = here pos in
-          let e : slot hash (w .slots) (q - 1) ≡ w .aim % w .slots = w .on-slot (q - 1) (omega arith) in
+          let e : slot hash (w .slots) (q - 1) ≡ slot-of (w .slots) (w .aim) = w .on-slot (q - 1) (omega arith) in
           record {
             slots = w .slots;
             aim = w .aim;
@@ -115,25 +130,27 @@ module _ {hash : ℕ → ℕ} {p : ℕ → Bool} where
 -- long enough for n numbers, and no head is set
 pub record Clear (head next : List ℕ) (n : ℕ) : Type 0 where
   pub some : 0 < length head
+  pub few : length head ≤ half
   pub long : n ≤ length next
   pub unset : (s : ℕ) → s < length head → getD head s 0 ≡ 0
 
-pub clear : (a b n : ℕ) → 0 < a → n ≤ b → Clear (replicate a 0) (replicate b 0) n
-clear a b n pos le =
+pub clear : (a b n : ℕ) → 0 < a → a ≤ half → n ≤ b → Clear (replicate a 0) (replicate b 0) n
+clear a b n pos few le =
     let la : length (replicate {A = ℕ} a 0) ≡ a = length-replicate a zero in
     let lb : length (replicate {A = ℕ} b 0) ≡ b = length-replicate b zero in
-    record { some = rw la pos; long = rw lb le; unset = λ s lt. getD-replicate a s 0 0 (rw la at lt) }
+    record { some = rw la pos; few = rw la few; long = rw lb le; unset = λ s lt. getD-replicate a s 0 0 (rw la at lt) }
 
 -- they hold the chains of the numbers below j
 pub record Chained (hash : ℕ → ℕ) (head next : List ℕ) (j : ℕ) : Type 0 where
   pub some : 0 < length head
+  pub few : length head ≤ half
   pub room : j ≤ length next
   pub heads : Heads hash (length head) head j
   pub nexts : Nexts hash (length head) next j
 
 -- with them a walk can look among the numbers below j
-pub walk-head : {hash : ℕ → ℕ} {p : ℕ → Bool} {h : ℕ} {head next : List ℕ} {j : ℕ} → Alike hash p h → Chained hash head next j → Walked hash p next j (getD head (h % length head) 0)
-walk-head {h = h} {head} alike c = walk-start alike (c .nexts) (c .room) (c .heads (h % length head) (mod-lt h (c .some)))
+pub walk-head : {hash : ℕ → ℕ} {p : ℕ → Bool} {h : ℕ} {head next : List ℕ} {j : ℕ} → h < half → Alike hash p h → Chained hash head next j → Walked hash p next j (getD head (slot-of (length head) h) 0)
+walk-head {h = h} {head} small alike c = walk-start alike (c .nexts) (c .room) (c .heads (slot-of (length head) h) (slot-lt small (c .some)))
 
 -- the links of the j-th number and those before it, by which a walk looks among those before it
 pub record Linked (hash : ℕ → ℕ) (next : List ℕ) (j : ℕ) : Type 0 where
@@ -151,6 +168,7 @@ walk-next {j = j} alike l = walk-start alike (λ k lt. l .nexts k (omega arith))
 pub chain-none : {hash : ℕ → ℕ} {head next : List ℕ} {n : ℕ} → Clear head next n → Chained hash head next 0
 chain-none c = record {
   some = c .some;
+  few = c .few;
   room = omega arith;
   heads = λ s lt. rw (c .unset s lt) (record { below = omega arith; skipped = λ i a b. absurd (omega arith); on-slot = λ i a. absurd (omega arith) });
   nexts = λ k lt. absurd (omega arith);
@@ -160,21 +178,22 @@ chain-none c = record {
 module _ {hash other : ℕ → ℕ} {head next : List ℕ} {j : ℕ} (same : (i : ℕ) → i < j → other i ≡ hash i) (c : Chained hash head next j) where
   link-kept : {d s b q : ℕ} → b ≤ j → Link hash d s b q → Link other d s b q
   link-kept {d} {b = b} le l =
-      let slot-kept : (i : ℕ) → i < j → slot other d i ≡ slot hash d i = λ i lt. ap (λ (h : ℕ). h % d) (same i lt) in
+      let slot-kept : (i : ℕ) → i < j → slot other d i ≡ slot hash d i = λ i lt. ap (slot-of d) (same i lt) in
       record { below = l .below; skipped = λ i a lt e. l .skipped i a lt (sym (slot-kept i (omega arith)) ∙ e); on-slot = λ i a. slot-kept i (omega (arith, l .below)) ∙ l .on-slot i a }
 
   pub chain-kept : Chained other head next j
   chain-kept = record {
     some = c .some;
+    few = c .few;
     room = c .room;
     heads = λ s lt. link-kept (omega arith) (c .heads s lt);
     nexts = λ k lt. rw (same k lt) (link-kept (omega arith) (c .nexts k lt));
   }
 
 -- one number more, of the slot s: its link is the slot's head, and it is the head
-module _ {hash : ℕ → ℕ} {head next : List ℕ} {j s : ℕ} (e : s ≡ slot hash (length head) j) (h : Chained hash head next j) where
-  pub chain-slot : s < length head
-  chain-slot = rw e (mod-lt (hash j) (h .some))
+module _ {hash : ℕ → ℕ} {head next : List ℕ} {j s : ℕ} (small : hash j < half) (e : s ≡ slot hash (length head) j) (h : Chained hash head next j) where
+  chain-slot : s < length head
+  chain-slot = rw e (slot-lt small (h .some))
 
   module _ (room : j < length next) where
     abbrev d : ℕ
@@ -183,7 +202,7 @@ module _ {hash : ℕ → ℕ} {head next : List ℕ} {j s : ℕ} (e : s ≡ slot
     nexts-more : Nexts hash d (set next j (getD head s 0)) (j + 1)
     nexts-more k lt = elim (decLt k j) [
       | yes p ↦ rw (getD-set-other next j k (getD head s 0) 0 (λ z. omega arith)) (h .nexts k p)
-      | no np ↦ let y : k ≡ j = omega arith in rw (y, getD-set-same next j (getD head s 0) 0 room, e) (h .heads (slot hash d j) (mod-lt (hash j) (h .some)))
+      | no np ↦ let y : k ≡ j = omega arith in rw (y, getD-set-same next j (getD head s 0) 0 room, e) (h .heads (slot hash d j) (slot-lt small (h .some)))
     ]
 
     heads-more : Heads hash d (set head s (j + 1)) (j + 1)
@@ -205,4 +224,4 @@ module _ {hash : ℕ → ℕ} {head next : List ℕ} {j s : ℕ} (e : s ≡ slot
     pub chain-more : Chained hash (set head s (j + 1)) (set next j (getD head s 0)) (j + 1)
     chain-more =
         let same : length (set head s (j + 1)) ≡ d = length-set head s (j + 1) in
-        record { some = rw same (h .some); room = simp length-set (omega arith); heads = rw same heads-more; nexts = rw same nexts-more }
+        record { some = rw same (h .some); few = rw same (h .few); room = simp length-set (omega arith); heads = rw same heads-more; nexts = rw same nexts-more }

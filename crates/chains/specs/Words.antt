@@ -12,7 +12,7 @@ use lib.Dec.{eqb, leb}
 use borrow.Author.Tests.{eqb-true, eq-eqb, le-leb, lt-leb}
 use Rattle.laws.specs.Tests.{on}
 use Rattle.laws.specs.Numbered.{least, least-at, least-none, every, every-each, every-yes, every-no, apart, apart-each}
-use Rattle.chains.specs.Chain.{fresh, Alike, Linked, Walked, Met, walk-next, walk-head, Chained, chain-kept}
+use Rattle.chains.specs.Chain.{fresh, half, slot-of, Alike, Linked, Walked, Met, walk-next, walk-head, Chained, chain-kept}
 
 -- ── rows ──
 -- n rows of one width stand one after the other from a word on, and their first words are compared
@@ -43,10 +43,7 @@ module _ {m : List ℕ} {at width words n : ℕ} (h : HasRows m at width words n
   row-room i lt = omega (arith, rows-to (i + 1) (omega arith) .room, h .most)
 
 -- ── a hash ──
--- one past the largest half of a word, and the factors of the halves
-abbrev half : ℕ
-half = 4_294_967_296
-
+-- the factors of the halves of a word
 abbrev low-factor : ℕ
 low-factor = 2_246_822_519
 
@@ -73,13 +70,21 @@ pub blend-more : (m : List ℕ) (b k : ℕ) → blend m b (suc k) ≡ mixed (ble
 unfolding blend
 blend-more m b k = refl
 
--- any function of the words would do
+-- any function of the words that is below half would do
 unfoldable pub hash-words : List ℕ → ℕ → ℕ → ℕ
 hash-words m b n = mixed (blend m b n) 0 / half
+
+pub hash-small : (m : List ℕ) (b n : ℕ) → hash-words m b n < half
+unfolding hash-words mixed
+hash-small m b n = let x = blend m b n + 0 in omega (arith, halves-fit {a = x % 2 ^ 64 % half} {b = x % 2 ^ 64 / half} (omega arith) (omega arith))
 
 -- the hash of a row's first words
 unfoldable pub hash-row : List ℕ → ℕ → ℕ → ℕ → ℕ → ℕ
 hash-row m at width words i = hash-words m (at + i * width) words
+
+pub row-small : (m : List ℕ) (at width words i : ℕ) → hash-row m at width words i < half
+unfolding hash-row
+row-small m at width words i = hash-small m (at + i * width) words
 
 same-blend : (m : List ℕ) (a : ℕ) (l : List ℕ) (b n : ℕ) → ((k : ℕ) → k < n → getD m (a + k) 0 ≡ getD l (b + k) 0) → blend m a n ≡ blend l b n
 unfolding blend
@@ -99,13 +104,13 @@ begins-alike m at width l b words i e = same-hash m _ l b words (λ k lt. eqb-tr
 -- ── rows found by the chains of their slots ──
 -- the link of the slot of a list's words
 unfoldable pub latest-of : List ℕ → List ℕ → ℕ
-latest-of l head = getD head (hash-words l 0 (length l) % length head) 0
+latest-of l head = getD head (slot-of (length head) (hash-words l 0 (length l))) 0
 
 -- a walk to the row that begins with them starts there
 pub walk-latest : (m : List ℕ) (at width : ℕ) (l : List ℕ) {head next : List ℕ} {n : ℕ} → Chained (hash-row m at width (length l)) head next n →
     Walked (hash-row m at width (length l)) (begins m at width l 0 (length l)) next n (latest-of l head)
 unfolding latest-of
-walk-latest m at width l c = walk-head (begins-alike m at width l 0 (length l)) c
+walk-latest m at width l c = walk-head (hash-small l 0 (length l)) (begins-alike m at width l 0 (length l)) c
 
 module _ (m : List ℕ) (at width words : ℕ) where
   -- the link of the j-th row, for a walk to an earlier row with its words

@@ -1,7 +1,7 @@
 // Rows found by their first words, and the test that no two begin with the same. Rows whose words have one hash are of one slot, and a row
 // is compared only with those of its slot: the time of a search goes by how many these are, and the answer is right however many they are.
 // The slots' chains stand in two arrays: head has for each slot one past its latest row, next for each row one past the latest earlier row
-// of its slot, and either 0 where there is none. head is of any length but 0, and next as long as there are rows.
+// of its slot, and either 0 where there is none. head is of any length from 1 to 2^32, and next as long as there are rows.
 // Everywhere the rows stand in mem one after the other: at is where the first begins, width how many words a row has, and words how many
 // of them, from its first on, are compared.
 ghost use mathlib.Core.Path.{_≡_};
@@ -9,7 +9,7 @@ ghost use mathlib.Core.Bool.{true};
 ghost use Prim.Native.Nat.{_+_, _≤_, _<_};
 ghost use lib.ListN.{length, getD};
 ghost use Rattle.laws.specs.Numbered.{apart};
-ghost use Rattle.chains.specs.Chain.{fresh, Linked, Walked, Met, Clear, Chained};
+ghost use Rattle.chains.specs.Chain.{fresh, half, slot-of, Linked, Walked, Met, Clear, Chained};
 ghost use Rattle.chains.specs.Words.{HasRows, same-words, same-row, begins, mixed, hash-words, hash-row, latest-of};
 
 // One past the largest half of a word, and the factors by which a hash mixes the halves.
@@ -54,6 +54,17 @@ fn hash_at(mem: &[u64], b: usize, words: usize) -> usize
     }
     let last = mix(h, 0);
     (last / HALF) as usize
+}
+
+// The slot of a hash, which is below HALF. A product and a shift, where a remainder would take a division.
+fn slot_of(hash: usize, slots: usize) -> usize
+    requires { ⌜ hash < half ⌝ }
+    requires { ⌜ 0 < slots ⌝ }
+    requires { ⌜ slots ≤ half ⌝ }
+    ensures slot { λ r. ⌜ r ≡ slot-of slots hash ⌝ }
+    ensures within { λ r. ⌜ r < slots ⌝ }
+{
+    hash * slots / HALF as usize
 }
 
 // Whether so many words from a word on are those of the key from another on. They are compared where they stand, up to the first that differs.
@@ -127,7 +138,7 @@ pub fn link_row(
     requires { ⌜ j < length (now next) ⌝ }
     ensures { λ _. ⌜ Chained (hash-row (now (mem .entry)) at width words) (now (head .exit)) (now (next .exit)) (j + 1) ⌝ }
 {
-    let s = hash_at(mem, at + j * width, words) % head.len();
+    let s = slot_of(hash_at(mem, at + j * width, words), head.len());
     next[j] = head[s];
     head[s] = (j + 1) as u16;
 }
@@ -207,9 +218,10 @@ pub fn rows_apart(mem: &[u64], at: usize, width: usize, words: usize, n: usize) 
 // The link of the slot of the key's words: one past its latest row, or 0.
 pub fn latest(key: &[u64], head: &[u16]) -> usize
     requires { ⌜ 0 < length (now head) ⌝ }
+    requires { ⌜ length (now head) ≤ half ⌝ }
     ensures { λ r. ⌜ r ≡ latest-of (now (key .entry)) (now (head .entry)) ⌝ }
 {
-    let s = hash_at(key, 0, key.len()) % head.len();
+    let s = slot_of(hash_at(key, 0, key.len()), head.len());
     wide(head[s])
 }
 

@@ -12,7 +12,7 @@ slice-aggregate-judge-text-2 : tie.Need-slice-aggregate-judge-text-2
 slice-aggregate-judge-text-2 c = search needs
 
 judge-text-requires : tie.Need-judge-text-requires
-judge-text-requires c κs = let s = c .before .before .before .before .before .before .before in (s .pre .0, (s .pre .1 .0, clear 1024 512 _ (omega arith) (s .pre .1 .1)))
+judge-text-requires c κs = let s = c .before .before .before .before .before .before .before in (s .pre .0, (s .pre .1 .0, clear 1024 512 _ (omega arith) (omega arith) (s .pre .1 .1)))
 
 same-length : tie.Need-same-length
 same-length c = search needs

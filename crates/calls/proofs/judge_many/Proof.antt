@@ -14,7 +14,7 @@ slice-aggregate-judge-text-2 : tie.Need-slice-aggregate-judge-text-2
 slice-aggregate-judge-text-2 c = search needs
 
 judge-text-requires : tie.Need-judge-text-requires
-judge-text-requires c κs = let s = c .before .before .before .before .before .before .before in (s .pre .0, (s .pre .1, clear 131072 65536 _ (omega arith) (most-enough (s .args .alone) (s .args .mem .now) (parts-counted (s .args .mem .now) (s .pre .0)) .1)))
+judge-text-requires c κs = let s = c .before .before .before .before .before .before .before in (s .pre .0, (s .pre .1, clear 131072 65536 _ (omega arith) (omega arith) (most-enough (s .args .alone) (s .args .mem .now) (parts-counted (s .args .mem .now) (s .pre .0)) .1)))
 
 same-length : tie.Need-same-length
 same-length c = search needs

@@ -13,7 +13,7 @@ slice-aggregate-chain-rows-2 : tie.Need-slice-aggregate-chain-rows-2
 slice-aggregate-chain-rows-2 c = search needs
 
 chain-rows-requires : tie.Need-chain-rows-requires
-chain-rows-requires c κs = (c .before .before .before .pre .0, clear 16384 8192 _ (lit< tt) (search needs))
+chain-rows-requires c κs = (c .before .before .before .pre .0, clear 16384 8192 _ (lit< tt) (search needs) (search needs))
 
 returns : tie.Need-returns
 returns c = search needs

@@ -24,7 +24,7 @@ slice-aggregate-latest : tie.Need-slice-aggregate-latest Inv-loop μ-loop
 slice-aggregate-latest c = search needs
 
 latest-requires : tie.Need-latest-requires Inv-loop μ-loop
-latest-requires c κs = c .before .before .before .before .before .before .pre .1 .chained .some
+latest-requires c κs = (c .before .before .before .before .before .before .pre .1 .chained .some, c .before .before .before .before .before .before .pre .1 .chained .few)
 
 loop-holds : tie.Need-loop-holds Inv-loop μ-loop
 loop-holds c = rw (c .latest .ensures) (seek-start (c .before .before .before .before .before .before .before .pre .1) (c .before .before .before .before .before .before .before .args .key))
