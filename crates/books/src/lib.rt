@@ -1,5 +1,6 @@
 // The lent words: where each thing stands. What they say and what edits write is in specs/; docs/STATE.md has the map.
 // There is no function here.
+#![tactic(auto)]
 
 // "up to 64 MPIDs and 256 symbols", and the most places that a table has.
 pub const MOST_GROUPS: usize = 64;

@@ -1,6 +1,6 @@
 -- Document 01, "Outcomes" and "A whole day": what the public calls answer, and the memory and the buffer after each.
 use Rattle.std.specs.Prelude.{not, cond, List, [], ◌∷◌, ℕ, ltb, eqb, length}
-use Rattle.std.proofs.Math.Option.{Option, Option·elim}
+use Rattle.std.proofs.Math.Option.{Option, Option-elim}
 use Prim.Native.Char.{code}
 use Rattle.std.proofs.Math.ListN.{get_elem?}
 use Rattle.laws.specs.Checks.{Check, ◌⇒◌, first}
@@ -85,4 +85,4 @@ closing_left x b = record { said = x; buffer = b }
 -- "21, 22, then 5 if no group has that place, which here writes nothing; it changes no state"
 unfoldable pub closed : List ℕ → ℕ → List ℕ → Closing
 closed m i b = let n = first (refusals 96 m b) in
-    cond (eqb n 0) (Option·elim (group_at m i) (closing_left (refuses 5) b) (λ g. closing_left (wrote (closing_of m g)) (begun (closing_of m g) b))) (closing_left (refuses n) b)
+    cond (eqb n 0) (Option-elim (group_at m i) (closing_left (refuses 5) b) (λ g. closing_left (wrote (closing_of m g)) (begun (closing_of m g) b))) (closing_left (refuses n) b)

@@ -2,7 +2,7 @@
 use Rattle.std.specs.Prelude.{◌≡◌, true, false, List, ℕ, ◌≤◌, ◌<◌, length, replicate}
 use Rattle.std.proofs.Math.Path.{refl}
 use Rattle.std.proofs.Common.{sym, ap, ◌∙◌, subst, arith, lt-ltb, le-ltb}
-use Rattle.std.proofs.Math.Option.{Option, none, some, Option·elim}
+use Rattle.std.proofs.Math.Option.{Option, none, some, Option-elim}
 use Rattle.std.proofs.Math.Decide.{dec_lt}
 use Rattle.laws.specs.Checks.{first}
 use Rattle.rulebook.specs.Kept.{Group, tally}
@@ -109,11 +109,11 @@ module _ (m : List ℕ) (i : ℕ) (b : List ℕ) where
 
   -- "then 5 if no group has that place, which here writes nothing"
   pub closing_unlisted : 96 ≤ length b → state_ok m ≡ true → group_at m i ≡ none → closed m i b ≡ closing_left (refuses 5) b
-  unfolding closed Option·elim
+  unfolding closed Option-elim
   closing_unlisted h e q = rw (not_refused 96 m b h e, q) refl
 
   pub closing_line_of : (g : Group) → 96 ≤ length b → state_ok m ≡ true → group_at m i ≡ some g → closed m i b ≡ closing_left (wrote (closing_of m g)) (begun (closing_of m g) b)
-  unfolding closed Option·elim
+  unfolding closed Option-elim
   closing_line_of g h e q = rw (not_refused 96 m b h e, q) refl
 
 -- THEOREM. What is written is the rulebook's closing line, and has at most 96 bytes

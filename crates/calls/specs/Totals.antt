@@ -2,7 +2,7 @@
 use Rattle.std.specs.Prelude.{◌≡◌, true, cond, List, ℕ, ◌≤◌, length}
 use Rattle.std.proofs.Math.Path.{refl, sym}
 use Rattle.std.proofs.Common.{ap, ◌∙◌, ltb-true, le-ltb}
-use Rattle.std.proofs.Math.Option.{none, some, Option·elim}
+use Rattle.std.proofs.Math.Option.{none, some, Option-elim}
 use Rattle.std.proofs.Math.Dec.{ltb}
 use Rattle.laws.specs.Tests.{on}
 use Rattle.laws.specs.Checks.{first}
@@ -49,9 +49,9 @@ module _ (m : List ℕ) (i : ℕ) (e : state_ok m ≡ true) where
       λ j. closing_by (Totals (r mpid_at) (r traded_buys_at) (r traded_sells_at) (s.open_buys j) (s.open_sells j) (flag (r blocked_at))) b
 
   pub totals_closed : (b : List ℕ) → 96 ≤ length b → closed m i b ≡ closing_by (totals_of (rows_of m) i) b
-  unfolding closed first totals_of Option·elim
-  totals_closed b h = rw (le-ltb (length b) 96 h, e) (ap (λ o. Option·elim o (closing_left (refuses 5) b) line) at_place
-      ∙ on (λ t. ltb i ng ≡ t → Option·elim (cond t (some (group_of (rows_of m) i)) none) (closing_left (refuses 5) b) line ≡ closing_by (cond t (totals_in (rows_of m) i) Unlisted) b) (ltb i ng) (λ z q. sym (row_line q b)) (λ z q. refl) refl)
+  unfolding closed first totals_of Option-elim
+  totals_closed b h = rw (le-ltb (length b) 96 h, e) (ap (λ o. Option-elim o (closing_left (refuses 5) b) line) at_place
+      ∙ on (λ t. ltb i ng ≡ t → Option-elim (cond t (some (group_of (rows_of m) i)) none) (closing_left (refuses 5) b) line ≡ closing_by (cond t (totals_in (rows_of m) i) Unlisted) b) (ltb i ng) (λ z q. sym (row_line q b)) (λ z q. refl) refl)
     where
       line : Group → Closing
       line g = closing_left (wrote (closing_of m g)) (begun (closing_of m g) b)

@@ -1,4 +1,5 @@
 // The public calls. Each does its own checking, and is stated for every memory, every line and every buffer.
+#![tactic(auto)]
 ghost use Rattle.std.specs.Prelude.{◌≡◌, true, [], ◌≤◌, length};
 ghost use Rattle.answers.specs.Answering.{answer_bytes, closing_bytes};
 ghost use Rattle.fields.specs.Out.{begun};
@@ -29,7 +30,7 @@ const MORE: usize = 8_192;
 const MANY: usize = 65_536;
 
 // What a record is answered: the bytes of its answer line; or that the buffer is too short (21), or that the lent state breaks a rule (22).
-#[derive(Drop)]
+#[derive(Clone, Copy)]
 pub enum Answered {
     Line(usize),
     ShortBuffer,
@@ -37,7 +38,7 @@ pub enum Answered {
 }
 
 // What a block of lines is answered: how many lines were taken, their bytes, and the bytes of their answer lines; or 21, or 22.
-#[derive(Drop)]
+#[derive(Clone, Copy)]
 pub enum Taken {
     Lines {
         count: usize,
@@ -49,7 +50,7 @@ pub enum Taken {
 }
 
 // What a closing line is answered: its bytes; or 21, or 22; or that no group has the place (5).
-#[derive(Drop)]
+#[derive(Clone, Copy)]
 pub enum Closed {
     Line(usize),
     ShortBuffer,

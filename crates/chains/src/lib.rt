@@ -4,6 +4,7 @@
 // of its slot, and either 0 where there is none. head is of any length from 1 to 2^32, and next as long as there are rows.
 // Everywhere the rows stand in mem one after the other: at is where the first begins, width how many words a row has, and words how many
 // of them, from its first on, are compared.
+#![tactic(auto)]
 ghost use Rattle.std.specs.Prelude.{◌≡◌, ◌+◌, ◌<◌, ◌≤◌, true, length, slice_index};
 ghost use Rattle.laws.specs.Numbered.{apart};
 ghost use Rattle.chains.specs.Chain.{fresh, half, slot_of, Linked, Walked, Met, Clear, Chained};

@@ -1,4 +1,5 @@
 // Document 01's per-order checks and limits, each list in its order.
+#![tactic(auto)]
 ghost use Rattle.std.specs.Prelude.{◌≡◌, ◌-◌, ◌≤◌, ◌<◌, length};
 ghost use Rattle.rulebook.specs.Prices.{tick, bad_price, rows, row_in, too_far, off_market};
 ghost use Rattle.rulebook.specs.Lines.{is_buy};
@@ -14,7 +15,7 @@ ghost use Rattle.checks.specs.Protection.{table, row_at, row_said, terms};
 ghost use Rattle.checks.specs.Beyond.{Quoted};
 
 // An order's figures; done is filled plus reduced, and `asked` is whether its cancel was asked for.
-#[derive(Drop)]
+#[derive(Clone, Copy)]
 pub struct Figures {
     pub price: u64,
     pub size: u64,
@@ -23,7 +24,7 @@ pub struct Figures {
 }
 
 // A group's traded buys and sells, and open buys and sells.
-#[derive(Drop)]
+#[derive(Clone, Copy)]
 pub struct Tally {
     pub tb: u64,
     pub ts: u64,
@@ -32,7 +33,7 @@ pub struct Tally {
 }
 
 // The six metrics, in document 01's order.
-#[derive(Drop)]
+#[derive(Clone, Copy)]
 struct Metrics {
     gross_trade: u64,
     net_trade: u64,
@@ -43,7 +44,7 @@ struct Metrics {
 }
 
 // A row of price protection: the prices below its bound, and what they are held to.
-#[derive(Drop)]
+#[derive(Clone, Copy)]
 struct Row {
     bound: u64,
     percent: u64,

@@ -2,6 +2,7 @@
 //
 // A day is two files: its lines, and the answer lines and closing lines that they are to get. Each has fewer than 65,536 bytes. For each day a
 // line says how many lines came as expected, or which is the first that did not, with what was said and what was expected.
+#![tactic(auto)]
 ghost use Rattle.std.specs.Prelude.{◌+◌, ◌≤◌, max, length};
 
 use calls::{Answered, Closed};
@@ -19,7 +20,7 @@ const ANSWER: usize = 32;
 const CLOSING: usize = 96;
 
 // How far what is said is what is expected: up to a place, after so many lines; or that a line differs.
-#[derive(Drop)]
+#[derive(Clone, Copy)]
 enum Met {
     UpTo(usize, u64),
     Not,

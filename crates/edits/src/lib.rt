@@ -1,4 +1,5 @@
 // What judging changes, by the rows that it found, and the lent words after it.
+#![tactic(auto)]
 ghost use Rattle.std.specs.Prelude.{◌≡◌, ◌+◌, ◌*◌, ◌≤◌, length};
 ghost use Rattle.std.proofs.lemmas.List.Edits.{sets};
 ghost use Rattle.laws.specs.Rows.{sheet, run};
@@ -12,7 +13,7 @@ use packing::Ident;
 use store::Key;
 
 // What a request asks for, as the table keeps it: 0 for a field that its kind has not.
-#[derive(Drop)]
+#[derive(Clone, Copy)]
 pub struct Asking {
     pub kind: u64,
     pub target: Ident,
@@ -23,7 +24,7 @@ pub struct Asking {
 }
 
 // A new order counted, or one amended, with the open values of its desk after it.
-#[derive(Drop)]
+#[derive(Clone, Copy)]
 pub enum OrderShift {
     Stay,
     Adds {
@@ -42,7 +43,7 @@ pub enum OrderShift {
 }
 
 // A group listed, or its block and its traded values set.
-#[derive(Drop)]
+#[derive(Clone, Copy)]
 pub enum GroupShift {
     Stay,
     Adds {
@@ -68,7 +69,7 @@ pub enum GroupShift {
 }
 
 // A symbol listed, or its quotes set.
-#[derive(Drop)]
+#[derive(Clone, Copy)]
 pub enum SymbolShift {
     Stay,
     Adds { id: u64, bid: u64, offer: u64 },
@@ -76,7 +77,7 @@ pub enum SymbolShift {
 }
 
 // A deed: at most one order, one group and one symbol.
-#[derive(Drop)]
+#[derive(Clone, Copy)]
 pub struct Deed {
     pub order: OrderShift,
     pub group: GroupShift,
@@ -84,7 +85,7 @@ pub struct Deed {
 }
 
 // The column "effect" of document 01's table of outcomes.
-#[derive(Drop)]
+#[derive(Clone, Copy)]
 pub enum Edit {
     Nothing,
     Opened,

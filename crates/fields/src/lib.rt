@@ -1,4 +1,5 @@
 // A line's fields: read as stretches of the lent line, numbers and letters; and written one after the other.
+#![tactic(auto)]
 ghost use Rattle.std.specs.Prelude.{◌≡◌, true, ◌&&◌, [], ◌∷◌, ◌++◌, ◌+◌, ◌-◌, ◌≤◌, eqb, length, take, drop, get_or};
 ghost use Rattle.rulebook.specs.Lines.{ceiling, text, letter, number, buy, identifier, mpid, serial, side, size, price, quoted, limit, yes_no};
 ghost use Rattle.fields.specs.Digits.{digits, digit_step, number_of};
@@ -6,28 +7,28 @@ ghost use Rattle.fields.specs.Parts.{unnamed, unlisted, blank, said, span, ends,
 ghost use Rattle.fields.specs.Out.{out, puts, left, handed};
 
 // A stretch of a line. It ends past the line where the field has not its form.
-#[derive(Drop)]
+#[derive(Clone, Copy)]
 pub struct Place {
     pub from: usize,
     pub to: usize,
 }
 
 // A number, and where its field ends.
-#[derive(Drop)]
+#[derive(Clone, Copy)]
 pub struct Number {
     pub value: u64,
     pub to: usize,
 }
 
 // A letter, and where its field ends.
-#[derive(Drop)]
+#[derive(Clone, Copy)]
 pub struct Letter {
     pub value: u8,
     pub to: usize,
 }
 
 // What a writer says: how many bytes it wrote, or that it had no room and wrote none.
-#[derive(Drop)]
+#[derive(Clone, Copy)]
 pub enum Written {
     Bytes(usize),
     NoRoom,
@@ -489,6 +490,6 @@ pub fn hand_over(from: &[u8], n: usize, to: &mut [u8]) -> Written
     if n > to.len() {
         return Written::NoRoom;
     }
-    bytes::copy(&from[0..n], to);
+    to[0..n].copy_from_slice(&from[0..n]);
     Written::Bytes(n)
 }

@@ -6,6 +6,7 @@
 // Where reading fails, the whole lines before have had their answers, the part of a line after them is not judged, no closing line is written,
 // and standard error says why: such a day cannot be taken for a whole one. Where writing fails the program ends at once, and standard error
 // says why unless the output was closed. By default the system itself ends a program that writes to a pipe that nobody reads.
+#![tactic(auto)]
 ghost use Rattle.std.specs.Prelude.{◌≡◌, map, ◌≤◌, length};
 ghost use Rattle.lines.specs.Splitting.{last};
 ghost use Rattle.calls.specs.Calling.{recorded};
@@ -30,14 +31,14 @@ const ANSWER: usize = 32;
 const CLOSING: usize = 96;
 
 // The answers so far: how many bytes of them wait to be written, or that no more can be answered.
-#[derive(Drop)]
+#[derive(Clone, Copy)]
 enum Answers {
     Waiting(usize),
     NoMore,
 }
 
 // Where the text ends after a read; that nothing was left to read; or that the read failed.
-#[derive(Drop)]
+#[derive(Clone, Copy)]
 enum Read {
     UpTo(usize),
     Nothing,
@@ -45,14 +46,14 @@ enum Read {
 }
 
 // How far a text is judged: up to a place, or that the program is to stop.
-#[derive(Drop)]
+#[derive(Clone, Copy)]
 enum Judged {
     UpTo(usize),
     Stopped,
 }
 
 // What a read brought: a block, judged, of which so many bytes are held; the end of the input; or that the program is to stop.
-#[derive(Drop)]
+#[derive(Clone, Copy)]
 enum Turn {
     Held(usize),
     Ended,
@@ -60,7 +61,7 @@ enum Turn {
 }
 
 // Whether a group's closing line is put, with the bytes that wait then; that no group is left; or that no more can be answered.
-#[derive(Drop)]
+#[derive(Clone, Copy)]
 enum Closing {
     Waiting(usize),
     NoGroup,

@@ -3,7 +3,7 @@ use Rattle.std.specs.Prelude.{◌≡◌, true, false, List, ℕ, suc, ◌+◌, �
 use Rattle.std.proofs.Math.Path.{refl, ap}
 use Rattle.std.proofs.Common.{sym, ◌∙◌, subst, arith}
 use Rattle.std.proofs.Math.Bool.{cond}
-use Rattle.std.proofs.Math.Option.{Option, Option·elim}
+use Rattle.std.proofs.Math.Option.{Option, Option-elim}
 use Prim.Native.Char.{code}
 use borrow.Author.Tests.{lt-ltb, le-ltb, le-leb, lt-leb}
 use Rattle.laws.specs.Tables.{look, look_key}
@@ -68,7 +68,7 @@ module _ (m : List ℕ) where
 
   -- ── a request ──
   pub no_desk : (r : Request) (g : ℕ) → g ≡ group_index S r.key.owner.mpid → head_in S groups_at ≤ g → judge_request (view m) r ≡ reply 5
-  unfolding judge_request Option·elim
+  unfolding judge_request Option-elim
   no_desk r g e h = rw (group_looked m r.key.owner.mpid ∙ row_missing (group_of S) (group_index S r.key.owner.mpid) (head_in S groups_at) (omega arith)) refl
 
   -- what the search of the table means for a request of the g-th desk
@@ -78,9 +78,9 @@ module _ (m : List ℕ) where
   at_place r g Full = reply 7
 
   pub at_table : (r : Request) (g : ℕ) → Desk m r.key.owner.mpid g → judge_request (view m) r ≡ at_place r g (found_place S (room_of m) r.key)
-  unfolding judge_request Option·elim books_in
+  unfolding judge_request Option-elim books_in
   at_table r g d =
-      let seek : Option Asked → Verdict = λ o. Option·elim o (cond (leb (room_of m) (length (view m).asked)) (reply 7) (at_place r g (Free 0))) (λ a. cond (same_request a.request r) (reply a.number) (reply 6)) in
+      let seek : Option Asked → Verdict = λ o. Option-elim o (cond (leb (room_of m) (length (view m).asked)) (reply 7) (at_place r g (Free 0))) (λ a. cond (same_request a.request r) (reply a.number) (reply 6)) in
       let n = length_numbered (asked_of S) (head_in S places_at) in
       rw (desk_looked m r.key.owner.mpid g d) (found_cases S (room_of m) r.key (λ f. seek (look by_request r.key (view m).asked) ≡ at_place r g f) (λ i lt e. rw e refl)
       (λ e lt. rw (e, n, lt-leb (room_of m) (head_in S places_at) lt) refl) (λ e le. rw (e, n, le-leb (room_of m) (head_in S places_at) le) refl))

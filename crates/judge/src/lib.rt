@@ -1,4 +1,5 @@
 // The verdict on a record, over the lent words: what it is answered, and what it changes.
+#![tactic(auto)]
 ghost use Rattle.std.specs.Prelude.{◌≡◌, cond, eqb};
 ghost use Rattle.laws.specs.Checks.{first};
 ghost use Rattle.laws.specs.Rows.{Sheet};
@@ -28,7 +29,7 @@ use rulings::{Deal, News};
 use store::{Found, Key};
 
 // What a record is answered, and what it changes.
-#[derive(Drop)]
+#[derive(Clone, Copy)]
 pub struct Verdict {
     pub outcome: u8,
     pub number: u64,

@@ -4,6 +4,7 @@
 // For each call a line says what was called, with how many words and bytes; whether the bytes of the buffer past the answer line are as they were
 // (every byte, where no line is written); whether every word of the memory is; and what was answered: the line, or the number that writes none, 0
 // for a fresh state.
+#![tactic(auto)]
 ghost use Rattle.std.specs.Prelude.{◌≡◌, length};
 
 use calls::{Answered, Closed};
@@ -21,7 +22,7 @@ const DOT: u8 = b'.';
 const GARBAGE: u64 = u64::MAX;
 
 // What a call answered: a line of so many bytes, or a number.
-#[derive(Drop)]
+#[derive(Clone, Copy)]
 enum Said {
     Line(usize),
     Number(u64),

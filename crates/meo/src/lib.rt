@@ -1,4 +1,5 @@
 // The exchange's New Order Request (source document 000, 4.1.1): an N written as one, and one read back. docs/MESSAGE.md has the table's rows.
+#![tactic(auto)]
 ghost use Rattle.std.specs.Prelude.{◌≡◌, true, ◌+◌, ◌≤◌, length, replicate};
 ghost use Rattle.rulebook.specs.Names.{word};
 ghost use Rattle.rulebook.specs.Lines.{identifier, mpid};
@@ -39,7 +40,7 @@ const LOCATE_AT: usize = 107;
 const PURGE_AT: usize = 111;
 
 // An N: its numbers, and where its texts stand in a line or a message beside it.
-#[derive(Drop)]
+#[derive(Clone, Copy)]
 pub struct NewOrder {
     pub name: Place,
     pub mpid: Place,
@@ -50,7 +51,7 @@ pub struct NewOrder {
 }
 
 // What a writer says: that the message is written; or 41, 42 or 43, and nothing is.
-#[derive(Drop)]
+#[derive(Clone, Copy)]
 pub enum Sent {
     Message,
     BadMessage,
@@ -59,7 +60,7 @@ pub enum Sent {
 }
 
 // What a reader says: the N; or 41 or 42.
-#[derive(Drop)]
+#[derive(Clone, Copy)]
 pub enum Found {
     Order(NewOrder),
     BadMessage,

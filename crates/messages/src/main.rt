@@ -5,6 +5,7 @@
 //   read MESSAGE            a message, to be read
 // For each vector a line is written: "write", the number and every byte of the output; or "read", the number and, where that is 0, the places
 // of identifier and MPID in the message, symbol, side, size and price, and the N's line.
+#![tactic(auto)]
 ghost use Rattle.std.specs.Prelude.{◌≤◌, ◌<◌, length};
 
 use codec::Reading;

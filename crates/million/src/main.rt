@@ -1,5 +1,6 @@
 // Reads a million lines and writes each back, a line of every kind in turn, and says how many came
 // back the same.
+#![tactic(auto)]
 use fields::{Place, Written};
 use libc::STDOUT_FILENO;
 

@@ -1,4 +1,5 @@
 // Identifiers, targets, MPIDs and a message's numbers packed into words, and whether words, letters and numbers have document 01's forms.
+#![tactic(auto)]
 ghost use Rattle.std.specs.Prelude.{◌≡◌, ◌+◌, ◌≤◌, ◌<◌, length, take, drop};
 ghost use Rattle.laws.specs.Tables.{All};
 ghost use Rattle.rulebook.specs.Names.{bytes, word, ident_of};
@@ -10,7 +11,7 @@ ghost use Rattle.packing.specs.Fitting.{fits};
 use fields::{MPID, Place, SIDE};
 
 // An identifier's or a target's bytes, eight to a word, the first lowest, zeros after the last.
-#[derive(Drop)]
+#[derive(Clone, Copy)]
 pub struct Ident {
     pub head: u64,
     pub middle: u64,

@@ -1,7 +1,7 @@
 -- Demand 3, "the sums over what is left of the orders passed and over the fills booked in that list":
 -- worked out from records and answers alone, with nothing of the books.
 use Rattle.std.specs.Prelude.{Bool, true, false, ◌&&◌, cond, ℕ, ◌+◌, ◌*◌, ◌-◌, ltb, eqb}
-use Rattle.std.proofs.Math.Option.{Option·elim}
+use Rattle.std.proofs.Math.Option.{Option-elim}
 use mathlib.Core.List.{List, [], ◌∷◌, ◌++◌, map, foldl}
 use Prim.Native.Char.{code}
 use Rattle.laws.specs.Tables.{find}
@@ -89,7 +89,7 @@ left_open m b (e ∷ h) = leaves m b h e + left_open m b h
 abbrev pub pays : Mpid → Bool → List Ticket → Effect → ℕ
 pays m b ts no_effect = 0
 pays m b ts (opens t l) = 0
-pays m b ts (moves k f v) = cond (Option·elim (find (λ t. same_key k t.key) ts) false (is_of m b)) v 0
+pays m b ts (moves k f v) = cond (Option-elim (find (λ t. same_key k t.key) ts) false (is_of m b)) v 0
 
 abbrev pub fills : Mpid → Bool → List Ticket → List Effect → ℕ
 fills m b ts [] = 0

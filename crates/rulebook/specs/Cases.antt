@@ -3,7 +3,7 @@ use Rattle.std.specs.Prelude.{◌≡◌, refl, Bool, true, false, ◌||◌, cond
 use Rattle.std.proofs.Common.{sym, ◌∙◌, subst, arith, ltb-true, ltb-false, leb-true, leb-false, ne_eqb}
 use Rattle.std.proofs.lemmas.Bool.{false≢true, lt-leb, not-false}
 use Rattle.std.proofs.Math.Bool.{and-eq-true_iff, or-true}
-use Rattle.std.proofs.Math.Option.{Option, none, some, Option·elim}
+use Rattle.std.proofs.Math.Option.{Option, none, some, Option-elim}
 use Rattle.laws.specs.Tests.{on, split, opt, is_none, none_of}
 use Rattle.laws.specs.Tables.{look, Has, stay, adds, puts, shifted}
 use Rattle.laws.specs.Checks.{Check, ◌⇒◌, first, Clear, each, first_cases}
@@ -73,10 +73,10 @@ pub record Free (b : Books) (r : Request) (g : Group) : Type 0 where
 
 pub request_cases : (b : Books) (r : Request) (P : Verdict → Type 0) → ((n : ℕ) → at_door b r ≡ some n → P (reply n)) →
     ((g : Group) → Free b r g → P (remember r (deal_ruling b.ledger g r.key r.deal))) → P (judge_request b r)
-unfolding judge_request Option·elim
-request_cases b r P old fresh = opt (λ d. P (Option·elim d (reply 5) seek)) (look by_mpid r.key.owner.mpid b.ledger.groups)
+unfolding judge_request Option-elim
+request_cases b r P old fresh = opt (λ d. P (Option-elim d (reply 5) seek)) (look by_mpid r.key.owner.mpid b.ledger.groups)
     (λ e. old 5 (rw e refl))
-    (λ g e. opt (λ a. P (Option·elim a (last g) compare)) (look by_request r.key b.asked)
+    (λ g e. opt (λ a. P (Option-elim a (last g) compare)) (look by_request r.key b.asked)
     (λ q. split P (leb b.room (length b.asked)) _ _ (λ h. old 7 (rw (e, q, h) refl)) (λ h. fresh g (record { desk = e; unknown = q; roomy = leb-false _ _ h })))
     (λ a q. split P (same_request a.request r) _ _ (λ h. old a.number (rw (e, q, h) refl)) (λ h. old 6 (rw (e, q, h) refl))))
   where
@@ -87,7 +87,7 @@ request_cases b r P old fresh = opt (λ d. P (Option·elim d (reply 5) seek)) (l
     compare a = cond (same_request a.request r) (reply a.number) (reply 6)
 
     seek : Group → Verdict
-    seek g = Option·elim (look by_request r.key b.asked) (last g) compare
+    seek g = Option-elim (look by_request r.key b.asked) (last g) compare
 
 pub door_free : (b : Books) (r : Request) (g : Group) → Free b r g → at_door b r ≡ none
 door_free b r g f = rw (f.desk, f.unknown, lt-leb b.room (length b.asked) f.roomy) refl
@@ -156,7 +156,7 @@ pub record DealCases (l : Ledger) (g : Group) (k : Key) (P : Deal → Ruling →
   pub on_unblock : P unblock (grant (deed stay (puts (blocking false g)) stay))
 
 found_cases : {A : Type 0} (P : Ruling → Type 0) (n : ℕ) (x : Option A) (f : A → Ruling) → P (hold n) → ((y : A) → x ≡ some y → P (f y)) → P (found n x f)
-unfolding Option·elim
+unfolding Option-elim
 found_cases P n none f h k = h
 found_cases P n (some y) f h k = k y refl
 

@@ -1,7 +1,7 @@
 -- Document 01's sample day, and the starred cases of "Both sides of a line", computed from the definitions.
 use Rattle.std.specs.Prelude.{◌≡◌, refl, true, false, not, ◌&&◌, cond, List, [], ◌∷◌, map, ℕ, eqb}
 use Rattle.std.proofs.Math.Bool.{decide}
-use Rattle.std.proofs.Math.Option.{Option, none, some, Option·elim}
+use Rattle.std.proofs.Math.Option.{Option, none, some, Option-elim}
 use Rattle.std.proofs.Math.Decide.{ℕ_discrete}
 use Rattle.std.proofs.Common.{arith}
 use Prim.Native.Char.{Char, code}
@@ -80,7 +80,7 @@ answer o n s = record { outcome = o; number = n; sent = s }
 
 -- to unfold this is to let every definition of judging compute
 unfoldable pub judging : Unit {0}
-unfolding word fresh_books judge judge_request judge_notice Option·elim look put first deal_ruling news_ruling new_checks change_checks cancel_checks fill_checks reduction_checks refused_checks limit_checks bad_price off_market rows open_value worth apply enact same_request decide ℕ_discrete exact_discrete
+unfolding word fresh_books judge judge_request judge_notice Option-elim look put first deal_ruling news_ruling new_checks change_checks cancel_checks fill_checks reduction_checks refused_checks limit_checks bad_price off_market rows open_value worth apply enact same_request decide ℕ_discrete exact_discrete
 judging = tt
 
 -- THEOREM. The sample day gets document 01's answers

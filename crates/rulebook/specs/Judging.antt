@@ -1,7 +1,7 @@
 -- Document 01, "Requests and identifiers" and "Outcomes": how each record is judged, and what it changes.
 -- Each list of checks stands in the order that the end of "Outcomes" gives.
 use Rattle.std.specs.Prelude.{true, false, not, ◌&&◌, cond, List, [], ◌∷◌, ◌++◌, ℕ, suc, ◌*◌, length, leb, ltb, eqb}
-use Rattle.std.proofs.Math.Option.{Option, Option·elim, get_or}
+use Rattle.std.proofs.Math.Option.{Option, Option-elim, get_or}
 use Prim.Native.Char.{Char}
 use Rattle.laws.specs.Tests.{is_none}
 use Rattle.laws.specs.Tables.{look, Shift, stay, adds, puts, shifted}
@@ -55,7 +55,7 @@ rule l d = record { number = first l; deed = cond (eqb (first l) 0) d idle }
 
 -- what is looked for, or the number of its absence
 abbrev pub found : {A : Type 0} → ℕ → Option A → (A → Ruling) → Ruling
-found n x f = Option·elim x (hold n) f
+found n x f = Option-elim x (hold n) f
 
 -- the order of the same owner that a target names
 abbrev pub named : Key → Ident → Key
@@ -185,8 +185,8 @@ see = verdict "S" "S" 0 0 nothing
 -- 5, known identifier, 7
 unfoldable pub judge_request : Books → Request → Verdict
 judge_request b r =
-    Option·elim (look by_mpid r.key.owner.mpid b.ledger.groups) (reply 5) λ g.
-    Option·elim (look by_request r.key b.asked)
+    Option-elim (look by_mpid r.key.owner.mpid b.ledger.groups) (reply 5) λ g.
+    Option-elim (look by_request r.key b.asked)
     (cond (leb b.room (length b.asked)) (reply 7) (remember r (deal_ruling b.ledger g r.key r.deal)))
     λ a. cond (same_request a.request r) (reply a.number) (reply 6)
 

@@ -5,7 +5,7 @@ use Rattle.std.proofs.Common.{sym, ap, ap₂, ◌∙◌, subst, arith}
 use Rattle.std.specs.Bool.{beq}
 use Rattle.std.proofs.Math.Bool.{and-eq-true_iff}
 use Rattle.std.proofs.Math.Option
-use Rattle.std.proofs.Math.Option.{Option, none, some, Option·elim, none-ne-some}
+use Rattle.std.proofs.Math.Option.{Option, none, some, Option-elim, none-ne-some}
 use mathlib.Core.List.{List, [], ◌∷◌, ◌++◌, map, map-append, map-map, append-nil, append_assoc, foldl}
 use Prim.Native.Char.{code}
 use Rattle.std.proofs.Math.ListN.{get_elem?}
@@ -120,7 +120,7 @@ shifts l l' k o f move v r h q p = record {
 }
 
 zero_pays : (m : Mpid) (b : Bool) (ts : List Ticket) (k : Key) (f : Left → Left) → pays m b ts (moves k f 0) ≡ 0
-zero_pays m b ts k f = zeros (Option·elim (find (λ t. same_key k t.key) ts) false (is_of m b))
+zero_pays m b ts k f = zeros (Option-elim (find (λ t. same_key k t.key) ts) false (is_of m b))
 
 -- a refusal at the door, or early
 reply_effect : (x : Record) (n : ℕ) → effect x (reply n).answer ≡ no_effect
@@ -152,7 +152,7 @@ traded_by false false v g = refl
 -- a fill: the value goes to the side of the N that its target names
 fill_pays : (l : Ledger) (k : Key) (f : Left → Left) (v : ℕ) (g : Group) (o : Order) (h : Group) → Seen l k g o → h.mpid ≡ g.mpid → ((b : Bool) → traded_of b h ≡ traded_of b g + cond (beq b (is_buy o.ticket.side)) v 0) →
     (m : Mpid) (b : Bool) → total m b (put by_mpid h l.groups) ≡ total m b l.groups + pays m b (map ticket_of l.orders) (moves k f v)
-unfolding Option·elim look
+unfolding Option-elim look
 fill_pays l k f v g o h s e t m b =
     let q : find (λ t. same_key k t.key) (map ticket_of l.orders) ≡ some o.ticket = find_map ticket_of (λ t. same_key k t.key) l.orders ∙ ap (Option.map ticket_of) s.stands in
     let d : h.mpid ≡ o.ticket.key.owner.mpid = e ∙ sym (look_key by_mpid k.owner.mpid l.groups s.desk) ∙ ap (λ k. k.owner.mpid) (look_key by_key k l.orders s.stands) in

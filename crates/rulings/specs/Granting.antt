@@ -3,7 +3,7 @@ use Rattle.std.proofs.Math.Path as path
 use Rattle.std.specs.Prelude.{◌≡◌, Bool, true, false, cond, ℕ, ◌<◌, ◌≤◌, ◌*◌, eqb}
 use Rattle.std.proofs.Math.Path.{refl, sym, ap, subst}
 use Rattle.std.proofs.Common.{◌∙◌, arith}
-use Rattle.std.proofs.Math.Option.{some, none, Option·elim}
+use Rattle.std.proofs.Math.Option.{some, none, Option-elim}
 use mathlib.Core.List.{List, []}
 use Rattle.std.proofs.Math.Dec.{ltb}
 use borrow.Author.Tests.{ltb-true, ltb-false, eq-eqb, ne_eqb}
@@ -202,11 +202,11 @@ module _ (m : List ℕ) (k : Key) where
   taken = head_in (rows_of m) places_at
 
   pub target_there : (f : Order → judging.Ruling) → at < taken → found 9 (look by_key k (view m).ledger.orders) f ≡ f (order_of (rows_of m) at)
-  unfolding Option·elim
+  unfolding Option-elim
   target_there f h = ap (λ o. found 9 o f) (order_looked m k ∙ row_there (order_of (rows_of m)) at taken h)
 
   target_missing : (f : Order → judging.Ruling) → taken ≤ at → found 9 (look by_key k (view m).ledger.orders) f ≡ hold 9
-  unfolding Option·elim
+  unfolding Option-elim
   target_missing f h = ap (λ o. found 9 o f) (order_looked m k ∙ row_missing (order_of (rows_of m)) at taken h)
 
   pub missing_held : (f : Order → judging.Ruling) → taken ≤ at → held_with 9 ≡ ruling_in_rows (rows_of m) (found 9 (look by_key k (view m).ledger.orders) f)
@@ -225,7 +225,7 @@ module _ (m : List ℕ) (k : Key) where
 
   -- THEOREM. What a notice gets goes by where its target stands
   pub spotted : (f : Group → Order → judging.Ruling) → at_order (view m).ledger k f ≡ spot_ruling f (spot_of (rows_of m) k)
-  unfolding spot_of Option·elim
+  unfolding spot_of Option-elim
   spotted f = let g = group_index (rows_of m) k.owner.mpid in let n = head_in (rows_of m) groups_at in
       ap (λ o. found 5 o (λ g. found 9 (look by_key k (view m).ledger.orders) (f g))) (group_looked m k.owner.mpid)
       ∙ on (λ b. found 5 (cond b (some (group_of (rows_of m) g)) none) (λ g. found 9 (look by_key k (view m).ledger.orders) (f g)) ≡ spot_ruling f (cond b (cond (ltb at taken) (Spot.Stands g at) Spot.NoOrder) Spot.NoDesk)) (ltb g n)

@@ -1,4 +1,5 @@
 // Requests and notices judged over the lent words: a number, and what is changed where it is 0.
+#![tactic(auto)]
 ghost use Rattle.std.specs.Prelude.{◌≡◌, ◌+◌, ◌≤◌, ◌<◌};
 ghost use Rattle.rulebook.specs.Lines.{is_buy};
 ghost use Rattle.laws.specs.Tables.{look, stay, puts};
@@ -25,14 +26,14 @@ use packing::Ident;
 use store::{Found, Key};
 
 // A number, and what is changed where it is 0.
-#[derive(Drop)]
+#[derive(Clone, Copy)]
 pub struct Ruling {
     pub number: u64,
     pub deed: Deed,
 }
 
 // What a request asks for.
-#[derive(Drop)]
+#[derive(Clone, Copy)]
 pub enum Deal {
     New {
         sym: u64,
@@ -53,7 +54,7 @@ pub enum Deal {
 }
 
 // What a notice tells.
-#[derive(Drop)]
+#[derive(Clone, Copy)]
 pub enum News {
     Quote { sym: u64, bid: u64, offer: u64 },
     Fill { target: Key, size: u64, price: u64 },
@@ -531,7 +532,7 @@ fn quote_ruling(mem: &[u64], sym: u64, bid: u64, offer: u64) -> Ruling
 }
 
 // Where the order that a notice names stands, and its desk; or which of the two is missing.
-#[derive(Drop)]
+#[derive(Clone, Copy)]
 enum Spot {
     NoDesk,
     NoOrder,

@@ -11,6 +11,7 @@
 // A case is the base before it with the words named set, of which the first LENGTH are lent. Its
 // answer is 1 where they are a state, and 0 where they break a rule (22). A memory has 4,096 words
 // and the file at most 262,144 bytes. For each case that is answered otherwise a line has its label.
+#![tactic(auto)]
 ghost use Rattle.std.specs.Prelude.{◌≡◌, ◌≤◌, max, length};
 
 use fields::Place;
@@ -25,14 +26,14 @@ const TEXT_BYTES: usize = 262_144;
 const GARBAGE: u64 = u64::MAX;
 
 // A number of the file, and where it ends.
-#[derive(Drop)]
+#[derive(Clone, Copy)]
 struct Number {
     value: u64,
     end: usize,
 }
 
 // How many cases were answered as good, as 22, and otherwise than the file says.
-#[derive(Drop)]
+#[derive(Clone, Copy)]
 struct Tally {
     good: u64,
     refused: u64,

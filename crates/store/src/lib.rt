@@ -1,4 +1,5 @@
 // The lent words, read and written: searches, a run of words stored, a fresh state, and the totals of a closing line.
+#![tactic(auto)]
 ghost use Rattle.std.specs.Prelude.{◌≡◌, ◌+◌, ◌≤◌, ◌<◌, length};
 ghost use Rattle.std.proofs.lemmas.List.Edits.{sets};
 ghost use Rattle.rulebook.specs.Names.{same_key};
@@ -16,14 +17,14 @@ use packing::Ident;
 const FIRST: usize = 0;
 
 // A request's key: its owner's MPID, and its identifier.
-#[derive(Drop)]
+#[derive(Clone, Copy)]
 pub struct Key {
     pub owner: u64,
     pub name: Ident,
 }
 
 // What the search of the table yields: the place that has the key, or the first free one, or that there is none.
-#[derive(Drop)]
+#[derive(Clone, Copy)]
 pub enum Found {
     At(usize),
     Free(usize),
@@ -152,7 +153,7 @@ pub fn find_place(mem: &[u64], heads: &[u16], links: &[u16], key: Key) -> Found
 }
 
 // What making a fresh state answers: done, or that the memory is too short for groups and symbols (23).
-#[derive(Drop)]
+#[derive(Clone, Copy)]
 pub enum Made {
     Done,
     TooShort,
@@ -175,7 +176,7 @@ pub fn make_fresh(mem: &mut [u64]) -> Made
 }
 
 // A group's totals as its closing line shows them, or that no group has the place (5).
-#[derive(Drop)]
+#[derive(Clone, Copy)]
 pub enum Closing {
     Totals {
         mpid: u64,

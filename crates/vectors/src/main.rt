@@ -6,6 +6,7 @@
 // back and its answer, escaped as a vector is. Then the answer to a line that breaks a form, and
 // closing lines. Where a text breaks a rule of room, the next line has "room" and the number of the
 // vector, or of the text among those last ones.
+#![tactic(auto)]
 ghost use Rattle.std.specs.Prelude.{◌≤◌, ◌<◌};
 
 use codec::Reading;
@@ -20,11 +21,11 @@ const Z9A0: u64 = 0x3041_395a;
 const CEILING: u64 = 4_000_000_000_000_000_000;
 
 // What a closing line is written from: MPID, traded and open buys and sells, blocked or not.
-#[derive(Drop)]
+#[derive(Clone, Copy)]
 struct Closing(u64, u64, u64, u64, u64, bool);
 
 // A text that the library is asked to write.
-#[derive(Drop)]
+#[derive(Clone, Copy)]
 enum Text {
     Record(Reading),
     Answer(Reading),
@@ -33,7 +34,7 @@ enum Text {
 }
 
 // A byte, and how many bytes of a vector say it.
-#[derive(Drop)]
+#[derive(Clone, Copy)]
 struct Step {
     byte: u8,
     width: usize,

@@ -10,10 +10,10 @@ use Rattle.net.specs.Nets.{casts_net, casts_fit}
 use Rattle.net.proofs.net.Statement.{statement}
 use Rattle.net.proofs.net.Tie as tie
 
-cast-result : tie.Need-overflow-cast-result
+cast-result : tie.Need-overflow_cast-result
 cast-result c = search rules
 
-cast-result-2 : tie.Need-overflow-cast-result-2
+cast-result-2 : tie.Need-overflow_cast-result-2
 cast-result-2 c = search rules
 
 fit : (c : tie.Start) → SFits w64 (to_z w64 c.args.buys -ℤ to_z w64 c.args.sells)
@@ -22,7 +22,7 @@ fit c = casts_fit c.args.buys c.args.sells (omega arith) (omega arith)
 returns : tie.Need-returns
 returns c = to_z-of_z w64 _ (fit c) ∙ casts_net c.args.buys c.args.sells (omega arith) (omega arith)
 
-sub-result : tie.Need-overflow-sub-result
+sub-result : tie.Need-overflow_sub-result
 sub-result c = fit c
 
 pub net-spec : {M : Type 1} → statement M

@@ -17,7 +17,7 @@ net-requires c κs = search rules
 size : (c : tie.After-net) → nat_abs (to_z w64 (of_z w64 c.net.result)) ≡ nat_abs (net c.before.args.buys c.before.args.sells)
 size c = ap nat_abs (to_z-of_z w64 c.net.result (rw c.net.ensures (net_fits c.before.args.buys c.before.args.sells (omega arith) (omega arith))) ∙ c.net.ensures)
 
-size-of-requires : tie.Need-size-of-requires
+size-of-requires : tie.Need-size_of-requires
 size-of-requires c κs = rw (size c) (omega (arith, net_apart c.before.args.buys c.before.args.sells))
 
 returns : tie.Need-returns

@@ -20,16 +20,16 @@ turned-fits c = size_fits _ (omega (arith, size_turned c.args.z))
 turned : (c : tie.Start) → to_z w64 (of_z w64 (pos 0 -ℤ to_z w64 (of_z w64 c.args.z))) ≡ pos 0 -ℤ c.args.z
 turned c = rw (same c) (to_z-of_z w64 _ (turned-fits c))
 
-sub-result : tie.Need-overflow-sub-result
+sub-result : tie.Need-overflow_sub-result
 sub-result c = rw (same c.before) (turned-fits c.before)
 
-cast-result : tie.Need-overflow-cast-result
+cast-result : tie.Need-overflow_cast-result
 cast-result c = rw (turned c.before) (minus_turned c.before.args.z (rw (same c.before) at c.if1.true), record { fits = omega (arith, size_turned c.before.args.z) })
 
 returns : tie.Need-returns
 returns c = ap nat_abs (turned c.before) ∙ size_turned c.before.args.z
 
-cast-result-2 : tie.Need-overflow-cast-result-2
+cast-result-2 : tie.Need-overflow_cast-result-2
 cast-result-2 c = rw (same c.before) (not_minus c.before.args.z (rw (same c.before) at c.if1.false), search rules)
 
 returns-2 : tie.Need-returns-2
