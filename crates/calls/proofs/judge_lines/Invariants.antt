@@ -1,0 +1,17 @@
+use mathlib.Core.Path.{◌≡◌}
+use mathlib.Core.Bool.{true}
+use mathlib.Core.List.{[]}
+use Prim.Native.Nat.{◌-◌, ◌≤◌}
+use lib.ListN.{length}
+use Rattle.store.specs.Indexing.{Indexed}
+use Rattle.rules.specs.Testing.{state_ok}
+use Rattle.lines.specs.Splitting.{whole}
+use Rattle.calls.specs.Blocks.{one_by_one}
+use Rattle.calls.specs.Taking.{so_far}
+use Rattle.calls.proofs.judge_lines.Given as goal
+
+abbrev pub invariant-loop-to : goal.invariant-loop-to
+invariant-loop-to l = (length l.mem ≡ length l.initial.mem) × (length l.heads ≡ length l.initial.heads) × (length l.links ≡ length l.initial.links) × (length l.to ≡ length l.initial.to) × (l.end ≤ length l.to) × (l.at ≤ length l.text) × (l.count ≤ l.at) × (state_ok l.mem ≡ true) × Indexed l.mem l.heads l.links × (one_by_one l.initial.mem (whole [] l.text) l.initial.to ≡ so_far l.text l.count l.at l.end l.mem l.to)
+
+abbrev pub decreases-loop-to : goal.decreases-loop-to
+decreases-loop-to l = length l.text - l.at

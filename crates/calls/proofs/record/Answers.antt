@@ -1,0 +1,13 @@
+-- `calls::record` meets its contract: a line alone, judged as a block of one, is a record.
+use Rattle.calls.specs.Taking.{recorded_by}
+use Rattle.calls.specs.declared.Taken.{Taken}
+use Rattle.calls.proofs.record.Goals as goal
+
+pub returns-in-Lines : goal.returns-in-Lines
+returns-in-Lines c = recorded_by _ _ _ _ c.written-1.given.1 c.judge_checked.ensures
+
+pub returns-in-ShortBuffer : goal.returns-in-ShortBuffer
+returns-in-ShortBuffer c = recorded_by _ _ _ Taken.ShortBuffer c.enum_told-1.given.1 c.judge_checked.ensures
+
+pub returns-in-BadState : goal.returns-in-BadState
+returns-in-BadState c = recorded_by _ _ _ Taken.BadState c.enum_told-in-BadState-1.given.1 c.judge_checked.ensures

@@ -1,0 +1,13 @@
+-- `checks::refused_number` meets its contract: the checks are tried in their order, and the first that holds gives its number.
+use Rattle.laws.specs.Checks.{checks_tried}
+use Rattle.rulebook.specs.Judging.{refused_checks}
+use Rattle.checks.specs.Trying.{order_tried}
+use Rattle.checks.proofs.refused_number.Goals as goal
+
+pub returns-then-f : goal.returns-then-f
+unfolding refused_checks
+returns-then-f c = search (checks_tried, order_tried) depth 12
+
+pub returns : goal.returns
+unfolding refused_checks
+returns c = search (checks_tried, order_tried) depth 12

@@ -1,0 +1,11 @@
+-- `judge::new_verdict` meets its contract: its ruling is the rulebook's, and what is remembered is the request.
+use mathlib.Core.Path.{◌∙◌}
+use Rattle.books.specs.View.{rows_of}
+use Rattle.judge.specs.Doors.{remembers}
+use Rattle.judge.proofs.new_verdict.Goals as goal
+
+pub deal_ruling-ruling-requires : goal.deal_ruling-ruling-requires
+deal_ruling-ruling-requires c = (c.requires.desk, c.requires.1.1)
+
+pub returns : goal.returns
+returns c = let m = c.args.mem.now in rw (c.sent_for.ensures, c.asking_of-asking.ensures) at c.answer.ensures ∙ remembers (rows_of m) _ _ c.deal_ruling-ruling.ensures c.args.key c.args.deal

@@ -1,0 +1,21 @@
+-- `meo::put_times` meets its contract: the rest, put from here, makes what the whole makes.
+use mathlib.Core.Path.{◌≡◌, refl, ◌∙◌}
+use Prim.Native.Nat.{suc, ◌+◌, ◌-◌}
+use native.Mathlib.Omega.{arith}
+use Rattle.fields.specs.Out.{puts}
+use Rattle.meo.proofs.put_times.Goals as goal
+
+pub loop-i-init : goal.loop-i-init
+loop-i-init c = let n = c.args.times in let z : n - 0 ≡ n = omega arith in (rw z, refl, omega arith)
+
+pub loop-i-preserved : goal.loop-i-preserved
+unfolding puts
+loop-i-preserved c =
+    let l = c.loop-i in
+    let n = c.args.times in
+    let k : n - l.i ≡ suc (n - (l.i + 1)) = omega arith in
+    (rw c.put-e.ensures (rw k at l.invariant.0), c.put-e.auto.to ∙ l.invariant.1, omega arith)
+
+pub returns : goal.returns
+unfolding puts
+returns c = let n = c.args.times in let z : n - c.loop-i.i ≡ 0 = omega arith in rw z at c.loop-i.invariant.0

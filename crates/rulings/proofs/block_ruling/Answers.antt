@@ -1,0 +1,12 @@
+-- `rulings::block_ruling` meets its contract: the traded values stay, and the mark is set.
+use native.Mathlib.Omega.{arith}
+use Rattle.books.specs.Judged.{valid_counted}
+use Rattle.rulings.specs.Granting.{block_granted}
+use Rattle.store.specs.Finding.{named_by}
+use Rattle.rulings.proofs.block_ruling.Goals as goal
+
+pub tally_at-t-requires : goal.tally_at-t-requires
+tally_at-t-requires c = let s = c in let n = valid_counted s.args.mem.now s.requires.valid in record { counted = n; group_bound = omega (arith, n, s.requires.listed) }
+
+pub returns : goal.returns
+returns c = let s = c in block_granted s.args.mem.now (named_by s.args.key) s.args.group s.requires s.args.blocked _ c.tally_at-t.ensures

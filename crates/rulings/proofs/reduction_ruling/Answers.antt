@@ -1,0 +1,23 @@
+-- `rulings::reduction_ruling` meets its contract: 5 or 9 where the desk or the order is missing, and else as it stands.
+use mathlib.Core.Path.{sym, ap, ◌∙◌, subst}
+use Rattle.books.specs.View.{rows_of, view}
+use Rattle.store.specs.Finding.{named_by}
+use Rattle.rulebook.specs.Judging.{reduction_ruling}
+use Rattle.rulings.specs.Granting.{hold_in_rows, spot_ruling, SpotHeld, spotted, spot_held}
+use Rattle.rulings.specs.Rulings.{ruling_in_rows}
+use Rattle.rulings.proofs.reduction_ruling.Goals as goal
+
+pub find_target-requires : goal.find_target-requires
+find_target-requires c =record { valid = c.requires.valid; indexed = c.requires.indexed }
+
+pub reduction_at-requires : goal.reduction_at-requires
+reduction_at-requires c = let s = c in record { held = subst (SpotHeld s.args.mem.now (named_by s.args.target)) (sym c.find_target.ensures ∙ c.group-1.given.1) (spot_held s.args.mem.now (named_by s.args.target) s.requires.valid); size_bound = s.requires.size_bound }
+
+pub returns-in-NoDesk : goal.returns-in-NoDesk
+returns-in-NoDesk c = let s = c in let m = s.args.mem.now in c.hold.ensures ∙ hold_in_rows (rows_of m) 5 ∙ (ap (ruling_in_rows (rows_of m)) (sym (spotted m (named_by s.args.target) (reduction_ruling (view m).ledger.orders s.args.size) ∙ ap (spot_ruling m (named_by s.args.target) (reduction_ruling (view m).ledger.orders s.args.size)) (sym c.find_target.ensures ∙ c.enum_told-1.given.1))))
+
+pub returns-in-NoOrder : goal.returns-in-NoOrder
+returns-in-NoOrder c = let s = c in let m = s.args.mem.now in c.hold-in-NoOrder.ensures ∙ hold_in_rows (rows_of m) 9 ∙ (ap (ruling_in_rows (rows_of m)) (sym (spotted m (named_by s.args.target) (reduction_ruling (view m).ledger.orders s.args.size) ∙ ap (spot_ruling m (named_by s.args.target) (reduction_ruling (view m).ledger.orders s.args.size)) (sym c.find_target.ensures ∙ c.enum_told-in-NoOrder-1.given.1))))
+
+pub returns-in-Stands : goal.returns-in-Stands
+returns-in-Stands c = let s = c in let m = s.args.mem.now in c.reduction_at.ensures ∙ (ap (ruling_in_rows (rows_of m)) (sym (spotted m (named_by s.args.target) (reduction_ruling (view m).ledger.orders s.args.size) ∙ ap (spot_ruling m (named_by s.args.target) (reduction_ruling (view m).ledger.orders s.args.size)) (sym c.find_target.ensures ∙ c.group-1.given.1))))
