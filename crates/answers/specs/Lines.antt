@@ -11,7 +11,7 @@ use Rattle.rulebook.specs.Kept.{Group as Listed, Books, Tally, tally}
 use Rattle.rulebook.specs.Outcomes.{Answer, name_of, answer_line, closing_line}
 use Rattle.rulebook.specs.Judging.{judge}
 use Rattle.rulebook.specs.Rules.{Sound}
-use Rattle.rulebook.specs.Forms.{answer_formed, closing_formed}
+use Rattle.rulebook.proofs.Forms.{answer_formed, closing_formed}
 use Rattle.fields.specs.Digits.{digits, digits_in}
 use Rattle.fields.specs.Forms.{Says, IsLine}
 use Rattle.fields.specs.Widths.{widths, line_width}

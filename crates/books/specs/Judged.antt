@@ -11,7 +11,7 @@ use Rattle.rulebook.specs.Lines.{Deal, News, Record}
 use Rattle.rulebook.specs.Kept.{Order, Group, Ledger, Books, by_mpid, by_id, by_key}
 use Rattle.rulebook.specs.Judging.{idle, deed, named, deal_ruling, news_ruling, judge}
 use Rattle.rulebook.specs.Day.{step}
-use Rattle.rulebook.specs.Cases.{number_not, kept_number, judge_cases, deal_cases, news_cases}
+use Rattle.rulebook.proofs.Cases.{number_not, kept_number, judge_cases, deal_cases, news_cases}
 use Rattle.books.specs.Layout.{groups_at, symbols_at, places_at}
 use Rattle.books.specs.View.{head_in, group_of, symbol_of, asked_of, books_in, rows_of, view}
 use Rattle.books.specs.Writing.{said, write}

@@ -17,9 +17,9 @@ use Rattle.rulebook.specs.Kept.{Order, Group, Asked, Ledger, Books, by_mpid, by_
 use Rattle.rulebook.specs.Judging.{Deed, Edit, nothing, opened, listed, remembered, taken, deal_ruling, news_ruling, enact, apply, judge}
 use Rattle.rulebook.specs.Day.{step}
 use Rattle.rulebook.specs.Rules.{Sound}
-use Rattle.rulebook.specs.Cases.{judge_cases}
-use Rattle.rulebook.specs.Retries.{deal_closed, news_closed}
-use Rattle.rulebook.specs.Keeping.{other_sum, no_orders, step_sound}
+use Rattle.rulebook.proofs.Cases.{judge_cases}
+use Rattle.rulebook.proofs.Retries.{deal_closed, news_closed}
+use Rattle.rulebook.proofs.Keeping.{other_sum, no_orders, step_sound}
 use Rattle.books.specs.Layout.{heads, groups, keys, requests, orders, layout, room_for, room_of, opened_at, groups_at, symbols_at, places_at, blocked_at, open_buys_at}
 use Rattle.books.specs.View.{mpid_in, head_in, group_of, symbol_of, opens_of, order_of, orders_in, books_in, rows_of, view}
 use Rattle.books.specs.Writing.{bit, group_index, order_index, group_words, mark_words, key_words, request_words, figure_words, new_figures, order_stores, open_store, open_stores, group_stores, deed_stores, place_stores, stores, write}

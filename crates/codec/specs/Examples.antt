@@ -2,7 +2,7 @@
 use Rattle.std.specs.Prelude.{◌≡◌, refl, cond, List, [], ◌∷◌, ◌++◌, map, ℕ, eqb}
 use Prim.Native.String.{String}
 use Rattle.rulebook.specs.Names.{bytes, word}
-use Rattle.rulebook.specs.Examples.{sample}
+use Rattle.rulebook.proofs.Examples.{sample}
 use Rattle.fields.specs.Digits.{digit_step, number_of}
 use Rattle.fields.specs.Parts.{stretch, span, field_at, every, has_form, end_at, ended}
 use Rattle.codec.specs.Readings.{record_of, form_number, read_as, read_line, reading}

@@ -8,7 +8,7 @@ use Rattle.laws.specs.Tests.{on, is_none, both}
 use Rattle.laws.specs.Tables.{find, All, all_map, Each}
 use Rattle.rulebook.specs.Names.{bytes, word, ident_of, mpid_of}
 use Rattle.rulebook.specs.Lines.{Side, buy, sell, short, exempt, side_letter, Field, text, letter, number, Fits, from_to, identifier, mpid, side, yes_no}
-use Rattle.rulebook.specs.Cases.{in_range}
+use Rattle.rulebook.proofs.Cases.{in_range}
 use Rattle.fields.specs.Parts.{unnamed, unlisted, blank, takes, every, has_form}
 use Rattle.fields.specs.Series.{side_of}
 use Rattle.fields.specs.Forms.{Says}

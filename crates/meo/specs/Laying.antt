@@ -7,7 +7,7 @@ use Rattle.laws.specs.Tests.{both, split}
 use Rattle.laws.specs.Tables.{All, all_both}
 use Rattle.rulebook.specs.Names.{bytes, word}
 use Rattle.rulebook.specs.Lines.{Side, buy, sell, short, exempt, identifier, mpid, letter}
-use Rattle.rulebook.specs.Cases.{in_range}
+use Rattle.rulebook.proofs.Cases.{in_range}
 use Rattle.fields.specs.Parts.{unnamed, unlisted, stretch, said, takes, every}
 use Rattle.fields.specs.Trips.{text_has}
 use Rattle.fields.specs.Puts.{puts_then}

@@ -7,7 +7,7 @@ use Rattle.laws.specs.Tests.{is_none, both}
 use Rattle.laws.specs.Tables.{find, All, all_map, ◌also◌}
 use Rattle.rulebook.specs.Names.{Ident, ident_of, Mpid, same_ident, ident_exact}
 use Rattle.rulebook.specs.Lines.{Field, text, letter, number, Fits, identifier, mpid, new, change, cancel, block, unblock, Deal, quote, fill, reduction, cancel_refused, News, Record, broken, open_day, group, symbol, ask, tell, request_line, notice_line, line_of, Formed}
-use Rattle.rulebook.specs.Cases.{in_range}
+use Rattle.rulebook.proofs.Cases.{in_range}
 use Rattle.fields.specs.Parts.{has_form}
 use Rattle.fields.specs.Packing.{Solid}
 use Rattle.fields.specs.Trips.{text_has, all_every}

@@ -9,7 +9,7 @@ use Rattle.std.proofs.lemmas.Bool.{eqb-false, not-true}
 use Rattle.laws.specs.Tests.{on, both}
 use Rattle.laws.specs.Tables.{All, all_map}
 use Rattle.rulebook.specs.Lines.{identifier}
-use Rattle.rulebook.specs.Cases.{in_range}
+use Rattle.rulebook.proofs.Cases.{in_range}
 use Rattle.fields.specs.Parts.{unnamed, takes, every}
 use Rattle.packing.specs.Words.{spelt, row, marked}
 

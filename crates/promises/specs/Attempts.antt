@@ -11,7 +11,7 @@ use Rattle.rulebook.specs.Judging.{judge}
 use Rattle.rulebook.specs.Kept.{fresh_books}
 use Rattle.rulebook.specs.Day as day
 use Rattle.rulebook.specs.Day.{Marks, no_marks, noted, marked, run}
-use Rattle.rulebook.specs.Retries.{repeated, struck_request}
+use Rattle.rulebook.proofs.Retries.{repeated, struck_request}
 use Rattle.calls.specs.Calling.{said_by}
 use Rattle.promises.specs.Day.{Call, lines, Since, heard, struck, struck_after, FirstAttempt}
 use Rattle.promises.specs.Striking.{same_line, Agree, agree_heard, struck_same}

@@ -9,8 +9,8 @@ use Rattle.rulebook.specs.Kept.{Books}
 use Rattle.rulebook.specs.Judging.{apply, judge}
 use Rattle.rulebook.specs.Day.{step, run}
 use Rattle.rulebook.specs.Rules.{Sound}
-use Rattle.rulebook.specs.Keeping.{step_sound}
-use Rattle.rulebook.specs.Sums as sums
+use Rattle.rulebook.proofs.Keeping.{step_sound}
+use Rattle.rulebook.proofs.Sums as sums
 use Rattle.codec.specs.Readings.{reading}
 use Rattle.codec.specs.Lines.{read_formed}
 use Rattle.answers.specs.Answering.{answer_bytes}

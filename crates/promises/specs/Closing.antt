@@ -12,8 +12,8 @@ use Rattle.rulebook.specs.Lines.{Record}
 use Rattle.rulebook.specs.Kept.{Group, Books, tally, fresh_books}
 use Rattle.rulebook.specs.Day.{run}
 use Rattle.rulebook.specs.Account.{account, desks}
-use Rattle.rulebook.specs.Sums as sums
-use Rattle.rulebook.specs.Sums.{listed, account_run}
+use Rattle.rulebook.proofs.Sums as sums
+use Rattle.rulebook.proofs.Sums.{listed, account_run}
 use Rattle.books.specs.View.{view}
 use Rattle.rules.specs.Testing.{state_ok}
 use Rattle.fields.specs.Out.{refuses, begun}

@@ -10,7 +10,7 @@ use Rattle.laws.specs.Tests.{opt}
 use Rattle.rulebook.specs.Kept.{Group, Books, fresh_books, tally}
 use Rattle.rulebook.specs.Day as day
 use Rattle.rulebook.specs.Day.{run, no_marks, noted}
-use Rattle.rulebook.specs.Examples.{judging}
+use Rattle.rulebook.proofs.Examples.{judging}
 use Rattle.fields.specs.Digits.{digits, digits_in}
 use Rattle.fields.specs.Series.{tails}
 use Rattle.codec.specs.Examples.{printed, computing, sample_lines}

@@ -9,7 +9,7 @@ use Rattle.rulebook.specs.Lines.{Record}
 use Rattle.rulebook.specs.Kept.{Books, fresh_books}
 use Rattle.rulebook.specs.Judging.{judge}
 use Rattle.rulebook.specs.Day.{step, run}
-use Rattle.rulebook.specs.Sums as sums
+use Rattle.rulebook.proofs.Sums as sums
 use Rattle.books.specs.Layout.{least_words, room_of}
 use Rattle.books.specs.View.{view}
 use Rattle.store.specs.Making.{made_words, fresh_view}

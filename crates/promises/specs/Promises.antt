@@ -14,7 +14,7 @@ use Rattle.rulebook.specs.Judging.{Verdict}
 use Rattle.rulebook.specs.Day as day
 use Rattle.rulebook.specs.Day.{run, no_marks, marked}
 use Rattle.rulebook.specs.Account.{desks}
-use Rattle.rulebook.specs.Retries.{fresh_linked, linked_run, struck_notice}
+use Rattle.rulebook.proofs.Retries.{fresh_linked, linked_run, struck_notice}
 use Rattle.books.specs.Layout.{least_words, room_of}
 use Rattle.books.specs.View.{view}
 use Rattle.store.specs.Making.{made_words}

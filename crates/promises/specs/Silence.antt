@@ -10,8 +10,8 @@ use Rattle.rulebook.specs.Judging.{judge}
 use Rattle.rulebook.specs.Day as day
 use Rattle.rulebook.specs.Day.{run, no_marks, noted}
 use Rattle.rulebook.specs.Account.{Told, desks}
-use Rattle.rulebook.specs.Sums as sums
-use Rattle.rulebook.specs.Examples.{judging}
+use Rattle.rulebook.proofs.Sums as sums
+use Rattle.rulebook.proofs.Examples.{judging}
 use Rattle.codec.specs.Examples.{printed, computing, sample_lines}
 use Rattle.books.specs.Layout.{least_words}
 use Rattle.books.specs.View.{view}

@@ -14,7 +14,7 @@ use Rattle.rulebook.specs.Kept.{Books, fresh_books}
 use Rattle.rulebook.specs.Judging.{nothing, judge}
 use Rattle.rulebook.specs.Day as day
 use Rattle.rulebook.specs.Day.{step, Marks, no_marks, noted}
-use Rattle.rulebook.specs.Retries.{request_exact, Linked, struck_nothing, linked_step, fresh_linked}
+use Rattle.rulebook.proofs.Retries.{request_exact, Linked, struck_nothing, linked_step, fresh_linked}
 use Rattle.fields.specs.Forms.{IsLine}
 use Rattle.codec.specs.Readings.{record_of}
 use Rattle.codec.specs.Lines.{read_line_of, one_line}

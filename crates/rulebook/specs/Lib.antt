@@ -8,11 +8,5 @@ pub mod Judging
 pub mod Day
 pub mod Account
 pub mod Rules
--- and its theorems
+-- and two words that contracts say of it; its theorems stand in proofs/
 pub mod Cases
-pub mod Retries
-pub mod Sums
-pub mod Keeping
-pub mod Forms
-pub mod Limits
-pub mod Examples

@@ -17,8 +17,8 @@ use Rattle.laws.specs.Rows.{Row, region}
 use Rattle.laws.specs.Checks.{all_hold, rules_read, rules_met}
 use Rattle.rulebook.specs.Names.{bytes, Key}
 use Rattle.rulebook.specs.Lines.{ceiling, Side, buy, sell, short, exempt, side_letter, Deal, new, change, cancel, block, unblock, side, letter, identifier, size, price, Fits, Formed, from_to, number, yes_no, group, ask, tell, quote, mpid}
-use Rattle.rulebook.specs.Cases.{in_range}
-use Rattle.rulebook.specs.Keeping.{name_fits}
+use Rattle.rulebook.proofs.Cases.{in_range}
+use Rattle.rulebook.proofs.Keeping.{name_fits}
 use Rattle.rulebook.specs.Kept.{metrics}
 use Rattle.fields.specs.Series.{side_of}
 use Rattle.fields.specs.Values.{says_side}

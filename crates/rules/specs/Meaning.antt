@@ -20,7 +20,7 @@ use Rattle.rulebook.specs.Lines.{ceiling, Side, new, change, cancel, block, unbl
 use Rattle.rulebook.specs.Kept.{Order, Group, Symbol, Asked, by_mpid, by_id, metrics, tally, worth}
 use Rattle.rulebook.specs.Account.{tickets, deal_effect}
 use Rattle.rulebook.specs.Rules.{FitsGroup, FitsSymbol, FitsAsked, tickets_at, tickets_in, SoundOrder, Sound}
-use Rattle.rulebook.specs.Sums.{tickets_append}
+use Rattle.rulebook.proofs.Sums.{tickets_append}
 use Rattle.fields.specs.Series.{side_of}
 use Rattle.packing.specs.Fitting.{fits, formed}
 use Rattle.packing.specs.Exactly.{fits_exactly, formed_exactly}

@@ -13,7 +13,7 @@ use Rattle.laws.specs.Checks.{rules_read}
 use Rattle.laws.specs.Rows.{Sheet}
 use Rattle.rulebook.specs.Names.{same_mpid}
 use Rattle.rulebook.specs.Lines.{ceiling, is_buy}
-use Rattle.rulebook.specs.Cases.{in_range}
+use Rattle.rulebook.proofs.Cases.{in_range}
 use Rattle.rulebook.specs.Kept.{open_value, is_of, worth}
 use Rattle.books.specs.Layout.{order_start, orders, width_of, groups, groups_at, places_at, mpid_at, open_buys_at, open_sells_at, order_price_at, order_size_at, done_at}
 use Rattle.books.specs.View.{mpid_in, head_in, rows_of, opens_of, order_of, orders_in}

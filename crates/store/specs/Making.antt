@@ -10,7 +10,7 @@ use Rattle.laws.specs.Numbered.{those, numbered, get_elem_numbered, those_none}
 use Rattle.rulebook.specs.Lines.{ceiling, number, mpid, yes_no, Line, line}
 use Rattle.rulebook.specs.Kept.{Group, tally, fresh_books}
 use Rattle.rulebook.specs.Rules.{Sound}
-use Rattle.rulebook.specs.Keeping.{fresh_sound}
+use Rattle.rulebook.proofs.Keeping.{fresh_sound}
 use Rattle.rulebook.specs.Outcomes.{closing_line, closing}
 use Rattle.books.specs.Layout.{least_words, room_for, groups, opened_at, last_at, groups_at, symbols_at, places_at, mpid_at, blocked_at, traded_buys_at, traded_sells_at, open_buys_at, open_sells_at}
 use Rattle.books.specs.View.{flag, head_in, group_of, asked_of, symbol_of, opens_of, order_of, orders_in, books_in, rows_of, view}

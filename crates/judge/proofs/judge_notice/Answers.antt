@@ -1,7 +1,7 @@
 -- `judge::judge_notice` meets its contract: before O it is 2.
 use mathlib.Core.Path.{sym, ap, ◌∙◌}
 use native.Mathlib.Omega.{arith}
-use Rattle.rulebook.specs.Cases.{judge_tell}
+use Rattle.rulebook.proofs.Cases.{judge_tell}
 use Rattle.books.specs.View.{rows_of, view}
 use Rattle.rulings.specs.Rulings.{news_said}
 use Rattle.judge.specs.Verdicts.{verdict_in_rows}

@@ -3,7 +3,7 @@ use mathlib.Core.Path.{sym, ap, ◌∙◌}
 use native.Mathlib.Omega.{arith}
 use Rattle.rulebook.specs.Names.{Key}
 use Rattle.rulebook.specs.Judging.{judge_request}
-use Rattle.rulebook.specs.Cases.{judge_ask}
+use Rattle.rulebook.proofs.Cases.{judge_ask}
 use Rattle.books.specs.View.{rows_of, view}
 use Rattle.rulings.specs.Rulings.{deal_said}
 use Rattle.judge.specs.Verdicts.{verdict_in_rows}

@@ -9,15 +9,15 @@ use mathlib.Core.List.{List, [], ◌∷◌, ◌++◌, map-eq-nil_iff}
 use Rattle.laws.specs.Tests.{on, is_none, exact_sym}
 use Rattle.laws.specs.Tables.{sum, sum_append, All, Distinct, all_map, all_append, Shift, stay, adds, puts, look, put, shifted, Has, Apart, look_key, look_self, all_look, has_same, has_append, apart_append, keys_put, length_put, put_self, sum_put, all_put, all_put_others}
 use Rattle.rulebook.specs.Names.{Mpid, Key, same_mpid, mpid_exact}
-use Rattle.rulebook.specs.Lines.{Terms, ceiling, Deal, News, Record, group, symbol, ask, tell, quote, fill, reduction, cancel_refused, price, Formed, Fits, serial, new, change, cancel, block, unblock, broken, open_day}
+use Rattle.rulebook.specs.Lines.{Terms, ceiling, Deal, News, Record, group, symbol, ask, tell, quote, fill, reduction, cancel_refused, Formed, Fits, serial, new, change, cancel, block, unblock, broken, open_day}
 use Rattle.rulebook.specs.Kept.{Figures, Order, Group, Symbol, Asked, Ledger, Books, by_mpid, by_id, by_key, new_group, new_symbol, remaining, with_figures, asking, worked, blocking, open_value, is_of, worth, tally, metrics, fresh_books}
 use Rattle.rulebook.specs.Outcomes.{name_of}
 use Rattle.rulebook.specs.Judging.{Deed, deed, enact, apply, Ruling, hold, named, deal_ruling, news_ruling}
 use Rattle.rulebook.specs.Day.{step, run}
 use Rattle.rulebook.specs.Rules.{is_kept, FitsGroup, FitsSymbol, FitsAsked, tickets_in, SoundOrder, SoundLedger, Sound}
-use Rattle.rulebook.specs.Cases.{judge_cases, deal_cases, news_cases}
-use Rattle.rulebook.specs.Retries.{Closed, deal_closed, news_closed, closed_listed}
-use Rattle.rulebook.specs.Sums.{Tidy, tidy_step}
+use Rattle.rulebook.proofs.Cases.{judge_cases, deal_cases, news_cases}
+use Rattle.rulebook.proofs.Retries.{Closed, deal_closed, news_closed, closed_listed}
+use Rattle.rulebook.proofs.Sums.{Tidy, tidy_step}
 
 -- ── what an order counts for ──
 worth_other : (m : Mpid) (b : Bool) (o : Order) → same_mpid m o.ticket.key.owner.mpid ≡ false → worth m b o ≡ 0

@@ -13,8 +13,8 @@ use Rattle.rulebook.specs.Kept.{Group, Asked, Ledger, Books, by_mpid, by_request
 use Rattle.rulebook.specs.Outcomes.{Answer, record_numbers, answer_line, closing_line, closing}
 use Rattle.rulebook.specs.Judging.{deal_ruling, news_ruling, messages, judge}
 use Rattle.rulebook.specs.Rules.{is_kept, FitsGroup, FitsAsked, Sound}
-use Rattle.rulebook.specs.Cases.{is_number, among_most, kept_number, door, at_door, judge_cases, news_cases}
-use Rattle.rulebook.specs.Keeping.{name_fits, deal_kept}
+use Rattle.rulebook.proofs.Cases.{is_number, among_most, kept_number, door, at_door, judge_cases, news_cases}
+use Rattle.rulebook.proofs.Keeping.{name_fits, deal_kept}
 
 -- a number that a record may get, or 0
 abbrev pub is_told : ℕ → Bool

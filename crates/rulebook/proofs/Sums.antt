@@ -15,12 +15,12 @@ use Rattle.rulebook.specs.Names.{Mpid, Key, same_mpid, same_key, mpid_exact, key
 use Rattle.rulebook.specs.Lines.{Terms, Deal, new, change, cancel, block, unblock, Request, News, quote, fill, reduction, cancel_refused, Record, broken, open_day, group, symbol, ask, tell, is_buy}
 use Rattle.rulebook.specs.Kept.{Figures, Ticket, Order, Group, Asked, Ledger, Books, by_mpid, by_key, by_request, new_group, new_order, is_open, with_figures, sized, worked, asking, traded, blocking, tested, tally, is_of, open_value, worth, fresh_books}
 use Rattle.rulebook.specs.Outcomes.{Answer, closing_line, closing}
-use Rattle.rulebook.specs.Judging.{Deed, deed, enact, named, apply, Ruling, deal_ruling, news_ruling, reply, messages, remember, book, judge}
+use Rattle.rulebook.specs.Judging.{Deed, enact, named, apply, Ruling, deal_ruling, news_ruling, reply, messages, remember, book, judge}
 use Rattle.rulebook.specs.Day.{step, run, log, rest}
 use Rattle.rulebook.specs.Account.{Told, Left, left_value, Effect, no_effect, opens, moves, deal_effect, news_effect, effect, listing, desks, told, less, tickets, after, leaves, left_open, pays, fills, effects, account}
 use Rattle.rulebook.specs.Rules.{tickets_at, tickets_in}
-use Rattle.rulebook.specs.Cases.{number_not, kept_number, judge_cases, deal_cases, Seen, news_cases}
-use Rattle.rulebook.specs.Retries.{Closed, deal_closed, news_closed, same_books}
+use Rattle.rulebook.proofs.Cases.{number_not, kept_number, judge_cases, deal_cases, Seen, news_cases}
+use Rattle.rulebook.proofs.Retries.{Closed, deal_closed, news_closed, same_books}
 
 -- ── what a desk has traded ──
 abbrev pub traded_of : Bool → Group → ℕ

@@ -15,7 +15,7 @@ use Rattle.rulebook.specs.Kept.{Group, Asked, Ledger, Books, by_mpid, by_request
 use Rattle.rulebook.specs.Outcomes.{Answer}
 use Rattle.rulebook.specs.Judging.{Deed, enact, nothing, apply, deal_ruling, news_ruling, Verdict, reply, judge, see}
 use Rattle.rulebook.specs.Day.{step, run, Entry, log, Marks, no_marks, noted, marked, struck, strike, rest}
-use Rattle.rulebook.specs.Cases.{door, at_door, door_free, request_cases, notice_cases, judge_ask, judge_tell, Early, judge_cases, deal_cases, news_cases}
+use Rattle.rulebook.proofs.Cases.{door, at_door, door_free, request_cases, notice_cases, judge_ask, judge_tell, Early, judge_cases, deal_cases, news_cases}
 
 pub request_exact : Exact same_request
 unfolding same_request
