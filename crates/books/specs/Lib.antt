@@ -3,5 +3,3 @@ pub mod View
 pub mod Writing
 pub mod Refining
 pub mod Rules
-pub mod Judged
-pub mod Kept

@@ -9,7 +9,7 @@ use Rattle.rulebook.specs.Day.{step}
 use Rattle.books.specs.Layout.{room_for, room_of, places_at}
 use Rattle.books.specs.View.{head_in, same_place, rows_of, view}
 use Rattle.books.specs.Refining.{Counted}
-use Rattle.books.specs.Judged.{valid_counted}
+use Rattle.books.proofs.Judged.{valid_counted}
 use Rattle.chains.specs.Chain.{Clear, Chained}
 use Rattle.store.specs.Indexing.{key_hash, Indexed, chains_kept, longer_table, same_keys, table_apart}
 use Rattle.rules.specs.Testing.{state_ok}

@@ -19,8 +19,8 @@ use Rattle.answers.specs.Lines.{gate_answer, gate_closing}
 use Rattle.books.specs.Layout.{least_words}
 use Rattle.books.specs.View.{view}
 use Rattle.books.specs.Writing.{write}
-use Rattle.books.specs.Judged.{judged}
-use Rattle.books.specs.Kept.{kept}
+use Rattle.books.proofs.Judged.{judged}
+use Rattle.books.proofs.Kept.{kept}
 use Rattle.store.specs.Making.{made_words, fresh_valid}
 use Rattle.rules.specs.Testing.{state_ok}
 use Rattle.rules.specs.Meaning.{exactly}

@@ -9,7 +9,7 @@ use Rattle.answers.specs.Answering.{answer_bytes}
 use Rattle.books.specs.Layout.{layout, room_of}
 use Rattle.books.specs.View.{rows_of, view}
 use Rattle.books.specs.Writing.{write}
-use Rattle.books.specs.Judged.{judged_apt, valid_counted}
+use Rattle.books.proofs.Judged.{judged_apt, valid_counted}
 use Rattle.rules.specs.Testing.{state_ok}
 use Rattle.rules.specs.Meaning.{exactly}
 use Rattle.edits.specs.InRows.{edit_in_rows}

@@ -10,7 +10,8 @@ use Rattle.rulebook.specs.Judging.{nothing, opened, listed, remembered, taken}
 use Rattle.books.specs.Layout.{groups, symbols, keys, requests, orders, layout, room_of, width_of, opened_at, last_at, groups_at, symbols_at, places_at, mpid_at, blocked_at, open_buys_at, id_at, bid_at, owner_at, kind_at, order_price_at}
 use Rattle.books.specs.View.{head_in, orders_in, books_in, rows_of, view}
 use Rattle.books.specs.Writing.{bit, head_store, store_at, order_stores, open_stores, group_stores, symbol_stores, deed_stores, place_stores, stores, write}
-use Rattle.books.specs.Refining.{Counted, Apt, edit_fit}
+use Rattle.books.specs.Refining.{Counted, Apt}
+use Rattle.books.proofs.Refining.{edit_fit}
 use Rattle.books.specs.Rules.{Valid}
 use Rattle.store.specs.declared.Key.{Key}
 use Rattle.checks.specs.declared.Figures.{Figures}

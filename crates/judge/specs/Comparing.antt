@@ -17,8 +17,8 @@ use Rattle.books.specs.Layout.{requests, request_start, places_at, kind_at, numb
 use Rattle.books.specs.View.{deal_in, asked_of, head_in, rows_of}
 use Rattle.books.specs.Writing.{Said, said}
 use Rattle.books.specs.Rules.{Valid}
-use Rattle.books.specs.Refining.{asked_back}
-use Rattle.books.specs.Judged.{valid_counted}
+use Rattle.books.proofs.Refining.{asked_back}
+use Rattle.books.proofs.Judged.{valid_counted}
 use Rattle.packing.specs.Words.{named}
 use Rattle.store.specs.Finding.{named_by, key_at}
 use Rattle.store.specs.declared.Key.{Key as KeyWords}

@@ -15,7 +15,7 @@ use Rattle.rulebook.specs.Judging.{deed, nothing, listed, verdict, setup, judge}
 use Rattle.books.specs.Layout.{room_of, opened_at, groups_at, symbols_at}
 use Rattle.books.specs.View.{flag, head_in, group_of, symbol_of, books_in, rows_of, view}
 use Rattle.books.specs.Writing.{group_index, symbol_index}
-use Rattle.books.specs.Refining.{counts}
+use Rattle.books.proofs.Refining.{counts}
 use Rattle.edits.specs.InRows.{edit_in_rows}
 use Rattle.edits.specs.declared.Edit.{Edit}
 use Rattle.rulings.specs.Looking.{at_row, group_looked, symbol_looked}

@@ -1,15 +1,3 @@
 -- Demand 3: what it is about
 pub mod Day
--- why it holds
 pub mod Kinds
-pub mod Showing
-pub mod Striking
-pub mod Carrying
-pub mod Closing
-pub mod Attempts
-pub mod Fresh
-pub mod Blocks
--- and what it says
-pub mod Promises
-pub mod Examples
-pub mod Silence

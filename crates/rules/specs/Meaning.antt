@@ -27,7 +27,8 @@ use Rattle.packing.specs.Exactly.{fits_exactly, formed_exactly}
 use Rattle.books.specs.Layout.{least_words, room_of, groups, symbols, keys, requests, orders, opened_at, last_at, groups_at, symbols_at, places_at, short_sales_at, blocked_at, traded_buys_at, traded_sells_at, open_buys_at, open_sells_at, id_at, bid_at, offer_at, number_at, kind_at, symbol_at, side_at, size_at, price_at, order_price_at, order_size_at, done_at, cancel_asked_at}
 use Rattle.books.specs.View.{flag, mpid_in, group_in, tally_in, key_in, target_in, head_in, group_of, symbol_of, asked_of, opens_of, order_of, same_place, orders_in, books_in, rows_of}
 use Rattle.books.specs.Writing.{group_index, symbol_index, request_words}
-use Rattle.books.specs.Refining.{Counted, counted}
+use Rattle.books.specs.Refining.{Counted}
+use Rattle.books.proofs.Refining.{counted}
 use Rattle.books.specs.Rules.{words_in, TidyGroup, TidyPlace, Summed, Valid}
 use Rattle.rules.specs.Testing.{head_fits, totals_fit, group_fits, symbol_fits, same_words, request_fits, no_figures, figures_fit, desk_listed, symbol_listed, no_totals, sums_are, rules, state_ok}
 

@@ -10,7 +10,7 @@ use Rattle.rulebook.specs.Names.{Mpid, mpid_exact}
 use Rattle.rulebook.specs.Lines.{ceiling, is_buy}
 use Rattle.rulebook.specs.Kept.{Figures, Order, Group, by_key, remaining, with_figures, traded, open_value, worth, Tally, tally, metrics}
 use Rattle.fields.specs.Series.{side_of}
-use Rattle.books.specs.Refining.{buy_read}
+use Rattle.books.proofs.Refining.{buy_read}
 
 -- remaining x price
 abbrev pub value_said : Figures → ℕ

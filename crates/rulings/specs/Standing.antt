@@ -18,7 +18,7 @@ use Rattle.books.specs.View.{tally_in, head_in, group_of, symbol_of, order_of, o
 use Rattle.books.specs.Writing.{group_index, order_index}
 use Rattle.books.specs.Rules.{Valid}
 use Rattle.books.specs.Refining.{Counted}
-use Rattle.books.specs.Judged.{valid_counted}
+use Rattle.books.proofs.Judged.{valid_counted}
 use Rattle.checks.specs.Saying.{figures_said, tally_said, symbol_at}
 use Rattle.checks.specs.Trying.{Checkable}
 use Rattle.checks.specs.declared.Figures.{Figures as FigureWords}

@@ -12,7 +12,8 @@ use Rattle.books.specs.Layout.{order_start, symbols, base_of, width_of, total_ce
 use Rattle.books.specs.View.{flag, mpid_in, head_in, asked_of, opens_of, rows_of}
 use Rattle.books.specs.Writing.{group_index, symbol_index}
 use Rattle.packing.specs.Exactly.{mpid_exactly}
-use Rattle.books.specs.Refining.{Counted, counted}
+use Rattle.books.specs.Refining.{Counted}
+use Rattle.books.proofs.Refining.{counted}
 use Rattle.chains.specs.Words.{same_row}
 use Rattle.store.specs.Indexing.{places_same}
 use Rattle.rules.specs.Testing.{head_fits, request_fits, desk_listed, symbol_listed, sums_are, state_ok}

@@ -14,7 +14,7 @@ use Rattle.rulebook.proofs.Keeping.{fresh_sound}
 use Rattle.rulebook.specs.Outcomes.{closing_line, closing}
 use Rattle.books.specs.Layout.{least_words, room_for, groups, opened_at, last_at, groups_at, symbols_at, places_at, mpid_at, blocked_at, traded_buys_at, traded_sells_at, open_buys_at, open_sells_at}
 use Rattle.books.specs.View.{flag, head_in, group_of, asked_of, symbol_of, opens_of, order_of, orders_in, books_in, rows_of, view}
-use Rattle.books.specs.Refining.{books_same, room_most}
+use Rattle.books.proofs.Refining.{books_same, room_most}
 use Rattle.books.specs.Rules.{Valid}
 use Rattle.store.specs.declared.Made.{Made}
 use Rattle.store.specs.declared.Made.TheVariants.{Done, TooShort}

@@ -1,7 +1,7 @@
 -- `calls::closing` meets its contract: 21, 22 and 5 write nothing, and a listed group's line has room.
 use mathlib.Core.Path.{sym, ap, ◌∙◌, subst}
 use borrow.Author.Tests.{not-true, not-false}
-use Rattle.books.specs.Judged.{valid_counted}
+use Rattle.books.proofs.Judged.{valid_counted}
 use Rattle.rules.specs.Meaning.{exactly}
 use Rattle.calls.specs.Keeping.{closing_short_buffer, closing_bad_state}
 use Rattle.calls.specs.Totals.{closing_by, ShortLine, totals_closed, totals_short}

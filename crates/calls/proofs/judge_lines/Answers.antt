@@ -5,7 +5,7 @@ use Prim.Native.Nat.{◌-◌}
 use native.Mathlib.Omega.{arith}
 use borrow.Author.Rules.{rules}
 use Rattle.books.specs.Layout.{room_for}
-use Rattle.books.specs.Judged.{valid_counted}
+use Rattle.books.proofs.Judged.{valid_counted}
 use Rattle.rules.specs.Meaning.{exactly}
 use Rattle.calls.specs.Calling.{Recorded}
 use Rattle.calls.specs.Taking.{tail, tail_room, still_ok, few_bytes, at_start, next_line, no_more_room, no_more_lines}

@@ -1,6 +1,6 @@
 -- `checks::is_buy` meets its contract: a letter that is not B is no buy.
 use mathlib.Core.Path.{sym}
-use Rattle.books.specs.Refining.{buy_read}
+use Rattle.books.proofs.Refining.{buy_read}
 use Rattle.checks.proofs.is_buy.Goals as goal
 
 pub returns : goal.returns

@@ -4,7 +4,7 @@ use Prim.Native.Nat.{ℕ}
 use Rattle.laws.specs.Checks.{first}
 use Rattle.books.specs.Layout.{opened_at, groups_at}
 use Rattle.books.specs.View.{head_in, rows_of}
-use Rattle.books.specs.Judged.{valid_counted}
+use Rattle.books.proofs.Judged.{valid_counted}
 use Rattle.store.specs.Finding.{mpid_word}
 use Rattle.edits.specs.InRows.{edit_in_rows, deed_in_rows}
 use Rattle.judge.specs.Verdicts.{listing_checks, terms_of, group_set_up}

@@ -2,7 +2,7 @@
 use mathlib.Core.Path.{sym, ap, ◌∙◌}
 use native.Mathlib.Omega.{arith}
 use Rattle.books.specs.View.{rows_of}
-use Rattle.books.specs.Judged.{valid_counted}
+use Rattle.books.proofs.Judged.{valid_counted}
 use Rattle.judge.specs.Verdicts.{verdict_in_rows}
 use Rattle.judge.specs.Comparing.{known_row, retried, differs}
 use Rattle.judge.proofs.known_verdict.Goals as goal

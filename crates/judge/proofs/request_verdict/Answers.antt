@@ -1,7 +1,7 @@
 -- `judge::request_verdict` meets its contract: the desk is looked up first, and then what the search of the table says.
 use mathlib.Core.Path.{sym, ap, ◌∙◌}
 use Rattle.books.specs.View.{rows_of}
-use Rattle.books.specs.Judged.{valid_counted}
+use Rattle.books.proofs.Judged.{valid_counted}
 use Rattle.judge.specs.Verdicts.{verdict_in_rows}
 use Rattle.judge.specs.Comparing.{requested}
 use Rattle.judge.specs.Doors.{no_desk, at_place, at_table, known_at}

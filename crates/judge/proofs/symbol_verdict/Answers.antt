@@ -5,7 +5,7 @@ use Prim.Native.Nat.{ℕ}
 use Rattle.laws.specs.Checks.{first}
 use Rattle.books.specs.Layout.{opened_at, symbols_at}
 use Rattle.books.specs.View.{head_in, rows_of}
-use Rattle.books.specs.Judged.{valid_counted}
+use Rattle.books.proofs.Judged.{valid_counted}
 use Rattle.store.specs.Finding.{first_symbol}
 use Rattle.edits.specs.InRows.{edit_in_rows, deed_in_rows}
 use Rattle.judge.specs.Verdicts.{listing_checks, symbol_set_up}

@@ -1,6 +1,6 @@
 -- `rulings::block_ruling` meets its contract: the traded values stay, and the mark is set.
 use native.Mathlib.Omega.{arith}
-use Rattle.books.specs.Judged.{valid_counted}
+use Rattle.books.proofs.Judged.{valid_counted}
 use Rattle.rulings.specs.Granting.{block_granted}
 use Rattle.store.specs.Finding.{named_by}
 use Rattle.rulings.proofs.block_ruling.Goals as goal

@@ -2,7 +2,7 @@
 use mathlib.Core.Path.{refl, ◌∙◌}
 use native.Mathlib.Omega.{arith}
 use borrow.Author.Tests.{eq-eqb, ne_eqb}
-use Rattle.books.specs.Refining.{buy_read}
+use Rattle.books.proofs.Refining.{buy_read}
 use Rattle.rulings.specs.Counting.{exchanged, part_bought, part_sold}
 use Rattle.rulings.proofs.exchange.Goals as goal
 

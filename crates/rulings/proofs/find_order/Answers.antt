@@ -1,7 +1,7 @@
 -- `rulings::find_order` meets its contract: only the place with the key may hold the order, and it does where it is a passed N.
 use mathlib.Core.Path.{sym, ap, ◌∙◌}
 use native.Mathlib.Omega.{arith}
-use Rattle.books.specs.Judged.{valid_counted}
+use Rattle.books.proofs.Judged.{valid_counted}
 use Rattle.books.specs.Layout.{room_of}
 use Rattle.books.specs.View.{rows_of}
 use Rattle.rules.specs.Agreeing.{is_order_is}

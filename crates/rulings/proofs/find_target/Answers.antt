@@ -1,7 +1,7 @@
 -- `rulings::find_target` meets its contract: the desk is looked for first, and then the order.
 use mathlib.Core.Path.{refl}
 use borrow.Author.Tests.{lt-ltb, le-ltb}
-use Rattle.books.specs.Judged.{valid_counted}
+use Rattle.books.proofs.Judged.{valid_counted}
 use Rattle.rulings.specs.Rulings.{spot_of}
 use Rattle.rulings.proofs.find_target.Goals as goal
 

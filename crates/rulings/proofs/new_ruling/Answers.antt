@@ -2,7 +2,7 @@
 use mathlib.Core.Path.{sym, ◌∙◌, subst}
 use native.Mathlib.Omega.{arith}
 use Prim.Native.Nat.{◌≤◌}
-use Rattle.books.specs.Judged.{valid_counted}
+use Rattle.books.proofs.Judged.{valid_counted}
 use Rattle.rulebook.specs.Kept.{Tally, metrics}
 use Rattle.rulebook.specs.Lines.{ceiling, is_buy}
 use Rattle.fields.specs.Series.{side_of}

@@ -1,7 +1,7 @@
 -- `rulings::pay` meets its contract: B alone is a buy.
 use mathlib.Core.Path.{refl, ◌∙◌}
 use borrow.Author.Tests.{eq-eqb, ne_eqb}
-use Rattle.books.specs.Refining.{buy_read}
+use Rattle.books.proofs.Refining.{buy_read}
 use Rattle.rulings.specs.Counting.{paid}
 use Rattle.rulings.proofs.pay.Goals as goal
 

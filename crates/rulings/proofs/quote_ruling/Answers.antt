@@ -1,6 +1,6 @@
 -- `rulings::quote_ruling` meets its contract: 8 where the symbol is not among those listed.
 use mathlib.Core.Path.{sym, ◌∙◌}
-use Rattle.books.specs.Judged.{valid_counted}
+use Rattle.books.proofs.Judged.{valid_counted}
 use Rattle.rulings.specs.Granting.{quote_held, quote_granted}
 use Rattle.rulings.proofs.quote_ruling.Goals as goal
 

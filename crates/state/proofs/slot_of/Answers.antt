@@ -3,7 +3,7 @@ use borrow.Author.Rules.{rules}
 use mathlib.Core.Path.{sym, ◌∙◌, ap}
 use Prim.Native.Nat.{◌-◌}
 use borrow.Author.Tests.{eq-eqb, ne_eqb}
-use Rattle.books.specs.Refining.{buy_read}
+use Rattle.books.proofs.Refining.{buy_read}
 use Rattle.state.specs.Summing.{slot}
 use Rattle.state.proofs.slot_of.Goals as goal
 

@@ -17,15 +17,15 @@ use Rattle.answers.specs.Answering.{answer_bytes}
 use Rattle.answers.specs.Lines.{gate_answer}
 use Rattle.books.specs.View.{view}
 use Rattle.books.specs.Writing.{write, stores}
-use Rattle.books.specs.Judged.{judged}
-use Rattle.books.specs.Kept.{kept}
+use Rattle.books.proofs.Judged.{judged}
+use Rattle.books.proofs.Kept.{kept}
 use Rattle.rules.specs.Testing.{state_ok}
 use Rattle.rules.specs.Meaning.{exactly}
 use Rattle.calls.specs.Calling.{said_by, verdict_on, answer_to, Recorded, recorded}
 use Rattle.calls.specs.Keeping.{judged_line, state_kept, books_after}
 use Rattle.promises.specs.Day.{Call, lines, Ample, after, left, Reply, reply, replies, Since, heard, struck, strike, shown, tells}
-use Rattle.promises.specs.Showing.{shows, answer_shown}
-use Rattle.promises.specs.Striking.{Fair, fair_step, struck_idle}
+use Rattle.promises.proofs.Showing.{shows, answer_shown}
+use Rattle.promises.proofs.Striking.{Fair, fair_step, struck_idle}
 
 -- ── one line ──
 -- the memory after it, and the reply to it, over books

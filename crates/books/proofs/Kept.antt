@@ -24,8 +24,9 @@ use Rattle.books.specs.Layout.{heads, groups, keys, requests, orders, layout, ro
 use Rattle.books.specs.View.{mpid_in, head_in, group_of, symbol_of, opens_of, order_of, orders_in, books_in, rows_of, view}
 use Rattle.books.specs.Writing.{bit, group_index, order_index, group_words, mark_words, key_words, request_words, figure_words, new_figures, order_stores, open_store, open_stores, group_stores, deed_stores, place_stores, stores, write}
 use Rattle.books.specs.Rules.{TidyGroup, TidyPlace, Summed, Valid}
-use Rattle.books.specs.Refining.{AptOrder, AptDeed, holds, Linked, Apt, asked_back, grown, group_found, order_found, After, deed_after, counts, length_write, write_shows}
-use Rattle.books.specs.Judged.{judged_apt, valid_counted, judged}
+use Rattle.books.specs.Refining.{AptOrder, AptDeed, holds, Linked, Apt}
+use Rattle.books.proofs.Refining.{asked_back, grown, group_found, order_found, After, deed_after, counts, length_write, write_shows}
+use Rattle.books.proofs.Judged.{judged_apt, valid_counted, judged}
 
 -- ── what only words can break, of a sheet whose orders are os ──
 -- a group's marks, and its open values

@@ -21,11 +21,11 @@ use Rattle.store.specs.Making.{made_words}
 use Rattle.rules.specs.Testing.{state_ok}
 use Rattle.calls.specs.Calling.{said_by, closing_of, group_at, recorded}
 use Rattle.promises.specs.Day.{Call, lines, Ample, left, Reply, replies, sheet, rest}
-use Rattle.promises.specs.Striking.{strike_same}
-use Rattle.promises.specs.Carrying.{all_answered}
-use Rattle.promises.specs.Attempts.{records}
-use Rattle.promises.specs.Closing.{sheet_some}
-use Rattle.promises.specs.Fresh.{day_ok, day_says, replies_is, fresh_says}
+use Rattle.promises.proofs.Striking.{strike_same}
+use Rattle.promises.proofs.Carrying.{all_answered}
+use Rattle.promises.proofs.Attempts.{records}
+use Rattle.promises.proofs.Closing.{sheet_some}
+use Rattle.promises.proofs.Fresh.{day_ok, day_says, replies_is, fresh_says}
 
 -- "Tabs are shown as spaces": the answers that the paper prints
 abbrev pub sample_answers : List (List ℕ)

@@ -17,7 +17,7 @@ use Rattle.calls.specs.Keeping.{judged_line}
 use Rattle.calls.specs.Blocks.{Block, idle, before, one_by_one, blocked}
 use Rattle.calls.specs.Taking.{line_answered, no_room, no_line, block_judged}
 use Rattle.promises.specs.Day.{Call, lines, Ample, after, left, Reply, reply, replies}
-use Rattle.promises.specs.Carrying.{booked, booked_ok, after_is, reply_is, all_booked, left_ok, left_is}
+use Rattle.promises.proofs.Carrying.{booked, booked_ok, after_is, reply_is, all_booked, left_ok, left_is}
 
 -- ── a day of blocks ──
 -- a block call lends a text and an answer buffer

@@ -18,12 +18,12 @@ use Rattle.books.specs.View.{view}
 use Rattle.store.specs.Making.{made_words}
 use Rattle.calls.specs.Calling.{said_by, Recorded, record_left, recorded}
 use Rattle.promises.specs.Day.{Call, Gate, lines, Ample, after, left, reply, replies, Sheet, sheet, is_kind, Shown, shown, totals_shown, tells, Closes, rest, rest_replies}
-use Rattle.promises.specs.Showing.{shows}
-use Rattle.promises.specs.Striking.{strike_same}
-use Rattle.promises.specs.Attempts.{records}
-use Rattle.promises.specs.Fresh.{next_shown, rest_tells}
-use Rattle.promises.specs.Promises.{closing_sums}
-use Rattle.promises.specs.Examples.{words_of_400, enough, room, says_400}
+use Rattle.promises.proofs.Showing.{shows}
+use Rattle.promises.proofs.Striking.{strike_same}
+use Rattle.promises.proofs.Attempts.{records}
+use Rattle.promises.proofs.Fresh.{next_shown, rest_tells}
+use Rattle.promises.proofs.Promises.{closing_sums}
+use Rattle.promises.proofs.Examples.{words_of_400, enough, room, says_400}
 
 -- ── useless gates ──
 -- a gate meets the record call's statement if it leaves what that says

@@ -20,13 +20,13 @@ use Rattle.books.specs.View.{view}
 use Rattle.store.specs.Making.{made_words}
 use Rattle.calls.specs.Calling.{said_by, recorded, closed}
 use Rattle.promises.specs.Day.{Call, Gate, lines, Ample, after, left, Reply, reply, replies, sheet, is_kind, shown, unsent, tells, Closes, heard, rest, rest_replies, struck_after, FirstAttempt}
-use Rattle.promises.specs.Showing.{shows, open_shown}
-use Rattle.promises.specs.Striking.{request_said, notice_said, opening_said}
-use Rattle.promises.specs.Carrying.{all_booked, all_answered, after_is, struck_booked}
-use Rattle.promises.specs.Attempts.{records, opened_same, struck_record, first_attempt}
-use Rattle.promises.specs.Closing.{closes, closed_again}
-use Rattle.promises.specs.Blocks.{Lent, Roomy, blocks_left, blocks_wrote, calls_of, taken, in_a_row, MakesDay, makes_day}
-use Rattle.promises.specs.Fresh.{all_answer, fresh_ok, made_is, day_ok, day_says, memory_is, replies_is, same_memory, same_replies, rest_says, rest_tells, day_fair, next_shown}
+use Rattle.promises.proofs.Showing.{shows, open_shown}
+use Rattle.promises.proofs.Striking.{request_said, notice_said, opening_said}
+use Rattle.promises.proofs.Carrying.{all_booked, all_answered, after_is, struck_booked}
+use Rattle.promises.proofs.Attempts.{records, opened_same, struck_record, first_attempt}
+use Rattle.promises.proofs.Closing.{closes, closed_again}
+use Rattle.promises.proofs.Blocks.{Lent, Roomy, blocks_left, blocks_wrote, calls_of, taken, in_a_row, MakesDay, makes_day}
+use Rattle.promises.proofs.Fresh.{all_answer, fresh_ok, made_is, day_ok, day_says, memory_is, replies_is, same_memory, same_replies, rest_says, rest_tells, day_fair, next_shown}
 
 -- What a call is replied goes by the calls before it: `reply G (left G m cs) c` is the reply to c in every day that begins with cs and goes on with c.
 pub one_by_one : (G : Gate) (m : List ℕ) (cs ds : List Call) → replies G m (cs ++ ds) ≡ replies G m cs ++ replies G (left G m cs) ds

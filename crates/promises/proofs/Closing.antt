@@ -20,7 +20,7 @@ use Rattle.fields.specs.Out.{refuses, begun}
 use Rattle.calls.specs.Calling.{wrote, group_at, closing_of, Closing, closing_left, closed}
 use Rattle.calls.specs.Keeping.{closing_short_buffer, closing_bad_state, closing_unlisted, closing_line_of, closing_written}
 use Rattle.promises.specs.Day.{Sheet, sheet, Closes}
-use Rattle.promises.specs.Showing.{closing_shown}
+use Rattle.promises.proofs.Showing.{closing_shown}
 
 -- ── the sums ──
 abbrev sheet_of : Closing → Sheet

@@ -21,7 +21,7 @@ use Rattle.codec.specs.Lines.{read_line_of, one_line}
 use Rattle.calls.specs.Calling.{said_by}
 use Rattle.promises.specs.Day.{is_kind, Since, heard, same_bytes, among, last_taken, struck, strike}
 use Rattle.promises.specs.Kinds.{has_kind, deal_kinds, news_kinds}
-use Rattle.promises.specs.Showing.{notice_number}
+use Rattle.promises.proofs.Showing.{notice_number}
 
 -- ── a record, to striking ──
 -- neither an O nor a request nor a notice: it marks nothing and is never struck

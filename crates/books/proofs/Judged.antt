@@ -9,14 +9,15 @@ use Rattle.laws.specs.Numbered.{length_numbered}
 use Rattle.rulebook.specs.Names.{Mpid, Key}
 use Rattle.rulebook.specs.Lines.{Deal, News, Record}
 use Rattle.rulebook.specs.Kept.{Order, Group, Ledger, Books, by_mpid, by_id, by_key}
-use Rattle.rulebook.specs.Judging.{idle, deed, named, deal_ruling, news_ruling, judge}
+use Rattle.rulebook.specs.Judging.{idle, named, deal_ruling, news_ruling, judge}
 use Rattle.rulebook.specs.Day.{step}
 use Rattle.rulebook.proofs.Cases.{number_not, kept_number, judge_cases, deal_cases, news_cases}
 use Rattle.books.specs.Layout.{groups_at, symbols_at, places_at}
 use Rattle.books.specs.View.{head_in, group_of, symbol_of, asked_of, books_in, rows_of, view}
 use Rattle.books.specs.Writing.{said, write}
 use Rattle.books.specs.Rules.{Valid}
-use Rattle.books.specs.Refining.{Counted, counted, Linked, AptOrder, AptGroup, AptDeed, Apt, refines}
+use Rattle.books.specs.Refining.{Counted, Linked, AptOrder, AptGroup, AptDeed, Apt}
+use Rattle.books.proofs.Refining.{counted, refines}
 
 idle_apt : (l : Ledger) → AptDeed l idle
 idle_apt l = record { order = tt; group = tt; symbol = tt }

@@ -18,10 +18,10 @@ use Rattle.rules.specs.Meaning.{exactly}
 use Rattle.calls.specs.Calling.{said_by, recorded}
 use Rattle.calls.specs.Keeping.{fresh_state}
 use Rattle.promises.specs.Day.{Call, lines, Ample, left, Reply, reply, replies, Since, heard, rest, rest_replies, shown, tells}
-use Rattle.promises.specs.Showing.{shows}
-use Rattle.promises.specs.Striking.{Fair, fresh_fair, fair_step}
-use Rattle.promises.specs.Carrying.{all_booked, all_answered, reply_is, left_ok, left_is, replies_are, booked_all, booked_struck, answered_struck, answered_shown, all_told}
-use Rattle.promises.specs.Attempts.{records}
+use Rattle.promises.proofs.Showing.{shows}
+use Rattle.promises.proofs.Striking.{Fair, fresh_fair, fair_step}
+use Rattle.promises.proofs.Carrying.{all_booked, all_answered, reply_is, left_ok, left_is, replies_are, booked_all, booked_struck, answered_struck, answered_shown, all_told}
+use Rattle.promises.proofs.Attempts.{records}
 
 fair_run : (s : Since) (b : Books) → Fair s b → (ls : List (List ℕ)) → Fair (foldl heard s ls) (run b (map said_by ls))
 fair_run s b f [] = f
