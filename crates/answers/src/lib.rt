@@ -1,5 +1,6 @@
 // Answer lines and closing lines, written.
 #![tactic(auto)]
+
 ghost use Rattle.std.specs.Prelude.{◌≡◌, [], ◌∷◌, ◌%◌};
 ghost use Rattle.fields.specs.Out.{out, puts, put_line, left, wrote};
 ghost use Rattle.codec.specs.Readings.{letter_of};

@@ -5,6 +5,7 @@
 // Everywhere the rows stand in mem one after the other: at is where the first begins, width how many words a row has, and words how many
 // of them, from its first on, are compared.
 #![tactic(auto)]
+
 ghost use Rattle.std.specs.Prelude.{◌≡◌, ◌+◌, ◌<◌, ◌≤◌, true, length, slice_index};
 ghost use Rattle.laws.specs.Numbered.{apart};
 ghost use Rattle.chains.specs.Chain.{fresh, half, slot_of, Linked, Walked, Met, Clear, Chained};

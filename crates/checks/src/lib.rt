@@ -1,5 +1,6 @@
 // Document 01's per-order checks and limits, each list in its order.
 #![tactic(auto)]
+
 ghost use Rattle.std.specs.Prelude.{◌≡◌, ◌-◌, ◌≤◌, ◌<◌, length};
 ghost use Rattle.rulebook.specs.Prices.{tick, bad_price, rows, row_in, too_far, off_market};
 ghost use Rattle.rulebook.specs.Lines.{is_buy};

@@ -1,5 +1,6 @@
 // The day's lines: each read into its record, and records, answers and closing lines written.
 #![tactic(auto)]
+
 ghost use Rattle.std.specs.Prelude.{◌≡◌, cond, ◌-◌, eqb, length};
 ghost use Rattle.codec.specs.Readings.{letter_of, read_as, read_line, reading, to_group, to_symbol, to_open, to_new, to_change, to_cancel, to_block, to_unblock, to_quote, to_fill, to_reduction, to_cancel_refused};
 ghost use Rattle.codec.specs.Writing.{fields_of, record_line};

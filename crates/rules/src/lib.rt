@@ -1,6 +1,7 @@
 // The state rules of a row: whether its words are in range. They ask nothing of the words, which may be anything.
 // specs/ has the whole test (22), what each of these has to do with it, and that the test is document 01's list.
 #![tactic(auto)]
+
 ghost use Rattle.std.specs.Prelude.{◌≡◌, ◌+◌, ◌≤◌, ◌<◌, length};
 ghost use Rattle.books.specs.Layout.{least_words, room_of, orders, width_of, HasKeys};
 ghost use Rattle.books.specs.View.{head_in, rows_of};

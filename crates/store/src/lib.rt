@@ -1,5 +1,6 @@
 // The lent words, read and written: searches, a run of words stored, a fresh state, and the totals of a closing line.
 #![tactic(auto)]
+
 ghost use Rattle.std.specs.Prelude.{◌≡◌, ◌+◌, ◌≤◌, ◌<◌, length};
 ghost use Rattle.std.proofs.lemmas.List.Edits.{sets};
 ghost use Rattle.rulebook.specs.Names.{same_key};

@@ -1,5 +1,5 @@
 -- `chains::hash_at` meets its contract: the words that are done are mixed.
-use Rattle.std.proofs.Common.{◌≡◌, ◌-◌, sym, refl, ◌∙◌, ap₂, add-one, arith, rules}
+use Rattle.std.proofs.Common.{◌≡◌, sym, refl, ◌∙◌, ap₂, add-one, arith, rules}
 use Rattle.chains.specs.Words.{mixed, blend_none, blend_more, hash_words}
 use Rattle.chains.proofs.hash_at.Goals as goal
 

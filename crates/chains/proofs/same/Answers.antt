@@ -1,16 +1,10 @@
 -- `chains::same` meets its contract: the words compared so far are the same, and one that differs settles it.
-use Rattle.std.proofs.Common.{◌-◌, true, sym, arith, rules, below_none, below_more, eq-eqb, ne_eqb}
+use Rattle.std.proofs.Common.{sym, arith, rules, ne_eqb}
 use Rattle.laws.specs.Numbered.{every_yes, every_no}
 use Rattle.chains.proofs.same.Goals as goal
 
-pub loop-k-init : goal.loop-k-init
-loop-k-init c = (search rules, below_none _)
-
 pub returns-then-mem-a : goal.returns-then-mem-a
 returns-then-mem-a c = sym (every_no _ _ _ (search rules) (ne_eqb _ _ c.if-mem-a.true))
-
-pub loop-k-preserved : goal.loop-k-preserved
-loop-k-preserved c = (search rules, below_more _ _ c.loop-k.invariant.1 (eq-eqb _ _ c.if-mem-a.false))
 
 pub returns : goal.returns
 returns c = sym (every_yes _ _ (λ l lt. c.loop-k.invariant.1 l (omega arith)))

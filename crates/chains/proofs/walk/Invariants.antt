@@ -1,4 +1,3 @@
-use Rattle.std.proofs.Common.{◌-◌}
 use Rattle.chains.specs.Chain.{Walked}
 use Rattle.chains.specs.Words.{begins, hash_row}
 use Rattle.chains.proofs.walk.Given as goal

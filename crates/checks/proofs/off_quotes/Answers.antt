@@ -1,13 +1,7 @@
 -- `checks::off_quotes` meets its contract: the row is not listed, or its quotes are the symbol's.
-use borrow.Author.Tests.{lt-ltb, le-ltb}
+use borrow.Author.Tests.{le-ltb}
 use Rattle.checks.specs.Beyond.{none_quoted}
 use Rattle.checks.proofs.off_quotes.Goals as goal
 
 pub returns-then-symbol-mem : goal.returns-then-symbol-mem
 returns-then-symbol-mem c = rw (le-ltb _ _ c.if-symbol-mem.true) (none_quoted _ _)
-
-pub off_market-requires : goal.off_market-requires
-off_market-requires c = (c.requires.priced, rw (lt-ltb _ _ c.if-symbol-mem.false) at c.requires.bid, rw (lt-ltb _ _ c.if-symbol-mem.false) at c.requires.offer)
-
-pub returns : goal.returns
-returns c = rw (lt-ltb _ _ c.if-symbol-mem.false) c.off_market.ensures

@@ -20,4 +20,4 @@ put_figures-requires c = first_storable (figures_stored _ _) _ (rest_storable (a
 pub returns : goal.returns
 unfolding place_stored
 returns c = let a = c.args in
-    ran_both a.room a.mem-1.now (asked_stored _ _ _ _) _ c.put_asked.ensures (ran_raised a.room _ (figures_stored _ _) places_at a.place c.put_figures.ensures c.put_row.ensures)
+    ran_both a.room a.mem.now (asked_stored _ _ _ _) _ c.put_asked.ensures (ran_raised a.room _ (figures_stored _ _) places_at a.place c.put_figures.ensures c.put_row.ensures)

@@ -1,5 +1,4 @@
 -- `rules::change_ok` meets its contract: the rules are tried in their order, and the first that fails says no.
-use Prim.Native.Nat.{◌-◌}
 use Rattle.laws.specs.Checks.{rules_tried}
 use Rattle.rules.specs.Passing.{change_ok}
 use Rattle.rules.proofs.change_ok.Goals as goal

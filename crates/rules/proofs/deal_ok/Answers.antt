@@ -1,8 +1,7 @@
 -- `rules::deal_ok` meets its contract: one test for each kind.
 use mathlib.Core.Path.{refl}
-use Prim.Native.Nat.{◌-◌}
 use borrow.Author.Tests.{eq-eqb, ne_eqb}
-use Rattle.rules.specs.Passing.{new_ok, change_ok, cancel_ok, deal_ok}
+use Rattle.rules.specs.Passing.{deal_ok}
 use Rattle.rules.proofs.deal_ok.Goals as goal
 
 pub returns-then-kind-eq-NEW : goal.returns-then-kind-eq-NEW

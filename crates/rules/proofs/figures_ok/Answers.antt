@@ -1,5 +1,4 @@
 -- `rules::figures_ok` meets its contract: the rules are tried in their order, and the first that fails says no.
-use Prim.Native.Nat.{◌-◌}
 use Rattle.laws.specs.Checks.{rules_tried}
 use Rattle.rules.specs.Passing.{figures_ok}
 use Rattle.rules.proofs.figures_ok.Goals as goal

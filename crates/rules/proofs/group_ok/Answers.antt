@@ -1,5 +1,4 @@
 -- `rules::group_ok` meets its contract: the rules are tried in their order, and the first that fails says no.
-use Prim.Native.Nat.{◌-◌}
 use Rattle.laws.specs.Checks.{rules_tried}
 use Rattle.rules.specs.Passing.{group_ok}
 use Rattle.rules.proofs.group_ok.Goals as goal

@@ -1,6 +1,5 @@
 -- `rules::head_ok` meets its contract: the rules are tried in their order, and the first that fails says no.
 use mathlib.Core.Path.{refl}
-use Prim.Native.Nat.{◌-◌}
 use native.Mathlib.Omega.{arith}
 use lib.ListN.{get_or}
 use Rattle.books.specs.Layout.{places_at, room_of}

@@ -1,5 +1,4 @@
 -- `rules::new_ok` meets its contract: the rules are tried in their order, and the first that fails says no.
-use Prim.Native.Nat.{◌-◌}
 use Rattle.laws.specs.Checks.{rules_tried}
 use Rattle.rules.specs.Passing.{new_ok}
 use Rattle.rules.proofs.new_ok.Goals as goal

@@ -1,6 +1,5 @@
 -- `rules::opens` meets its contract: the rules are tried in their order, and the first that fails says no.
 use mathlib.Core.Path.{refl}
-use Prim.Native.Nat.{◌-◌}
 use borrow.Author.Tests.{eq-eqb, ne_eqb}
 use Rattle.laws.specs.Checks.{stop, pass, last_call}
 use Rattle.rules.specs.Passing.{is_order}

@@ -1,5 +1,4 @@
 -- `rules::request_ok` meets its contract: the rules are tried in their order, and the first that fails says no.
-use Prim.Native.Nat.{◌-◌}
 use Rattle.laws.specs.Checks.{rules_tried}
 use Rattle.rules.specs.Passing.{request_ok}
 use Rattle.rules.proofs.request_ok.Goals as goal

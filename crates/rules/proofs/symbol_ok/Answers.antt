@@ -1,5 +1,4 @@
 -- `rules::symbol_ok` meets its contract: the rules are tried in their order, and the first that fails says no.
-use Prim.Native.Nat.{◌-◌}
 use Rattle.laws.specs.Checks.{rules_tried}
 use Rattle.rules.specs.Passing.{symbol_ok}
 use Rattle.rules.proofs.symbol_ok.Goals as goal

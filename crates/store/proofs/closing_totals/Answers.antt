@@ -1,6 +1,5 @@
 -- `store::closing_totals` meets its contract: the words of the row.
 use mathlib.Core.Path.{refl}
-use Prim.Native.Nat.{◌-◌}
 use borrow.Author.Tests.{lt-ltb, le-ltb}
 use Rattle.store.specs.Making.{totals_of}
 use Rattle.store.proofs.closing_totals.Goals as goal

@@ -1,25 +1,12 @@
 -- `store::find_place` meets its contract: the walk along the slot of the key meets the one place that has it, or ends; each break is one of the three answers.
 use mathlib.Core.Path.{sym, ◌∙◌}
 use native.Mathlib.Omega.{arith}
-use Rattle.chains.specs.Chain.{walk_down}
 use Rattle.store.specs.Finding.{found_at, found_free, found_full}
 use Rattle.store.specs.Indexing.{seek_start, seek_met, seek_on, seek_end}
 use Rattle.store.proofs.find_place.Goals as goal
 
-pub latest-link-requires : goal.latest-link-requires
-latest-link-requires c =record { head_nonzero = c.requires.indexed.chained.some; head_len_bound = c.requires.indexed.chained.few }
-
 pub loop-link-init : goal.loop-link-init
 loop-link-init c = rw c.latest-link.ensures (seek_start c.requires.indexed c.args.key)
-
-pub has_key-requires : goal.has_key-requires
-has_key-requires c = omega (arith, c.requires.counted.few_places, c.requires.counted.whole, c.loop-link.invariant.below, c.if-link-eq0.false)
-
-pub earlier-link-requires : goal.earlier-link-requires
-earlier-link-requires c = omega (arith, c.loop-link.invariant.below, c.loop-link.invariant.room, c.if-link-eq0.false)
-
-pub loop-link-smaller : goal.loop-link-smaller
-loop-link-smaller c = omega (arith, c.earlier-link.ensures, walk_down c.loop-link.invariant (omega (arith, c.if-link-eq0.false)))
 
 pub loop-link-preserved : goal.loop-link-preserved
 loop-link-preserved c = rw c.earlier-link.ensures (seek_on c.requires.indexed c.args.key c.loop-link.invariant (omega (arith, c.if-link-eq0.false)) (sym c.has_key.ensures ∙ c.if-has_key.false))

@@ -1,5 +1,4 @@
 -- `store::room` meets its contract: the quotient, cut at the most.
-use Prim.Native.Nat.{◌-◌}
 use native.Mathlib.Omega.{arith}
 use Rattle.books.specs.Layout.{room_for}
 use Rattle.store.proofs.room.Goals as goal
