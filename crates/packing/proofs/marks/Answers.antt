@@ -1,19 +1,15 @@
 -- `packing::marks` meets its contract: no byte's sum passes 255, so the word's sum has the bytes' sums.
-use Prim.Native.Nat.{◌+◌, ◌*◌, ◌^◌, ◌<◌}
 use native.Mathlib.Omega.{arith}
 use Rattle.packing.specs.Together.{times, sum_fits, marked_together}
 use Rattle.packing.proofs.marks.Goals as goal
 
-fits : (c : tie.Start) → c.args.w + c.args.more * times 8 1 < 256 ^ 8
-fits c = sum_fits c.args.more 8 c.args.w (omega arith) c.requires
-
 pub overflow_mul-result : goal.overflow_mul-result
 unfolding times
-overflow_mul-result c = omega (arith, fits c)
+overflow_mul-result c = omega (arith, sum_fits c.args.more 8 c.args.w (omega arith) c.requires)
 
 pub overflow_add-result : goal.overflow_add-result
 unfolding times
-overflow_add-result c = omega (arith, fits c)
+overflow_add-result c = omega (arith, sum_fits c.args.more 8 c.args.w (omega arith) c.requires)
 
 pub returns : goal.returns
 unfolding times

@@ -14,8 +14,8 @@ pub loop-i-init : goal.loop-i-init
 unfolding word
 loop-i-init c = let text = c.args.text.now in (omega arith, rw (drop-length text), omega (arith, pow-le-pow_right {n = 256} (omega arith) {i = 0} {j = 8 - length text} (omega arith)))
 
-grows : (c : tie.After-wide invariant-loop decreases-loop) → (c.wide.result + 256 * c.loop-i.w < 256 ^ (8 - (c.loop-i.i - 1))) × (c.wide.result + 256 * c.loop-i.w < 256 ^ 8)
-grows c = word_grows c.loop-i.i c.loop-i.w c.wide.result (omega arith) (omega arith) c.loop-i.invariant.2 (omega (arith, c.wide.ensures, c.shared_slice_known-in-loop-i-1.given (c.loop-i.i - 1)))
+grows : (c : goal.After-wide) → (c.wide.result + 256 * c.loop-i.w < 256 ^ (8 - (c.loop-i.i - 1))) × (c.wide.result + 256 * c.loop-i.w < 256 ^ 8)
+grows c = word_grows c.loop-i.i c.loop-i.w c.wide.result (omega arith) (omega arith) c.loop-i.invariant.2 (omega (arith, c.wide.ensures, c.type_inv.text (c.loop-i.i - 1)))
 
 pub overflow_mul-w : goal.overflow_mul-w
 overflow_mul-w c = omega (arith, (grows c).1)
