@@ -5,10 +5,11 @@
 // (every byte, where no line is written); whether every word of the memory is; and what was answered: the line, or the number that writes none, 0
 // for a fresh state.
 #![tactic(auto)]
+
 ghost use Rattle.std.specs.Prelude.{◌≡◌, length};
 
 use calls::{Answered, Closed};
-use libc::STDOUT_FILENO;
+use std::io;
 use store::Made;
 
 // A memory with room for one request.
@@ -28,8 +29,8 @@ enum Said {
     Number(u64),
 }
 
-fn say(text: &[u8]) {
-    io::write_all(STDOUT_FILENO, text);
+fn say(rt: &impl Print, text: &[u8]) -> io::Result<()> {
+    rt.write_all(text)
 }
 
 // A memory of which every word is the one named.
@@ -62,34 +63,34 @@ fn words_kept(before: &[u64; WORDS], after: &[u64; WORDS]) -> bool {
     true
 }
 
-fn say_number(number: usize) {
-    io::print_decimal(STDOUT_FILENO, number as u64);
+fn say_number(rt: &impl Print, number: usize) -> io::Result<()> {
+    print!(rt; "{number}")
 }
 
 // Says what a call was lent.
-fn say_lent(words: usize, room: usize) {
-    say(b", ");
-    say_number(words);
-    say(b" words, ");
-    say_number(room);
-    say(b" bytes: ");
+fn say_lent(rt: &impl Print, words: usize, room: usize) -> io::Result<()> {
+    say(rt, b", ")?;
+    say_number(rt, words)?;
+    say(rt, b" words, ")?;
+    say_number(rt, room)?;
+    say(rt, b" bytes: ")
 }
 
-fn say_kept(kept: bool) {
+fn say_kept(rt: &impl Print, kept: bool) -> io::Result<()> {
     if kept {
-        say(b"kept, ");
+        say(rt, b"kept, ")
     } else {
-        say(b"changed, ");
+        say(rt, b"changed, ")
     }
 }
 
 // Says the answer: its line, as far as the buffer goes, or its number.
-fn say_answer(said: Said, buffer: &[u8; BYTES]) {
+fn say_answer(rt: &impl Print, said: Said, buffer: &[u8; BYTES]) -> io::Result<()> {
     match said {
-        Said::Line(to) => say(fields::part(buffer, fields::Place { from: 0, to })),
+        Said::Line(to) => say(rt, fields::part(buffer, fields::Place { from: 0, to })),
         Said::Number(number) => {
-            io::print_decimal(STDOUT_FILENO, number);
-            say(b"\n");
+            print!(rt; "{number}")?;
+            say(rt, b"\n")
         }
     }
 }
@@ -102,12 +103,18 @@ fn end_of(said: Said) -> usize {
     }
 }
 
-fn report(said: Said, buffer: &[u8; BYTES], before: &[u64; WORDS], after: &[u64; WORDS]) {
-    say(b"bytes ");
-    say_kept(bytes_kept(buffer, end_of(said)));
-    say(b"words ");
-    say_kept(words_kept(before, after));
-    say_answer(said, buffer);
+fn report(
+    rt: &impl Print,
+    said: Said,
+    buffer: &[u8; BYTES],
+    before: &[u64; WORDS],
+    after: &[u64; WORDS],
+) -> io::Result<()> {
+    say(rt, b"bytes ")?;
+    say_kept(rt, bytes_kept(buffer, end_of(said)))?;
+    say(rt, b"words ")?;
+    say_kept(rt, words_kept(before, after))?;
+    say_answer(rt, said, buffer)
 }
 
 // Has a record judged over the first so many words, with so many bytes for its answer.
@@ -152,135 +159,151 @@ fn fresh_within(mem: &mut [u64], words: usize) -> Said {
     }
 }
 
-fn try_record(mem: &mut [u64; WORDS], words: usize, room: usize, line: &[u8]) {
+fn try_record(
+    rt: &impl Print,
+    mem: &mut [u64; WORDS],
+    words: usize,
+    room: usize,
+    line: &[u8],
+) -> io::Result<()> {
     let before = *mem;
     let mut buffer = [DOT; BYTES];
     let said = record_within(mem, words, line, &mut buffer, room);
-    say(b"record");
-    say_lent(words, room);
-    report(said, &buffer, &before, mem);
+    say(rt, b"record")?;
+    say_lent(rt, words, room)?;
+    report(rt, said, &buffer, &before, mem)
 }
 
-fn try_closing(mem: &[u64; WORDS], words: usize, room: usize, place: usize) {
+fn try_closing(
+    rt: &impl Print,
+    mem: &[u64; WORDS],
+    words: usize,
+    room: usize,
+    place: usize,
+) -> io::Result<()> {
     let before = *mem;
     let mut buffer = [DOT; BYTES];
     let said = closing_within(mem, words, place, &mut buffer, room);
-    say(b"closing ");
-    say_number(place);
-    say_lent(words, room);
-    report(said, &buffer, &before, mem);
+    say(rt, b"closing ")?;
+    say_number(rt, place)?;
+    say_lent(rt, words, room)?;
+    report(rt, said, &buffer, &before, mem)
 }
 
-fn try_fresh(words: usize) {
+fn try_fresh(rt: &impl Print, words: usize) -> io::Result<()> {
     let mut mem = filled(GARBAGE);
     let before = mem;
     let said = fresh_within(&mut mem, words);
-    say(b"fresh");
-    say_lent(words, 0);
-    report(said, &[DOT; BYTES], &before, &mem);
+    say(rt, b"fresh")?;
+    say_lent(rt, words, 0)?;
+    report(rt, said, &[DOT; BYTES], &before, &mem)
 }
 
 // Making a fresh state, in memories too short for groups and symbols (23), and in one that is just long enough.
-fn try_fresh_states() {
-    try_fresh(0);
-    try_fresh(books::LEAST_WORDS - 1);
-    try_fresh(books::LEAST_WORDS);
+fn try_fresh_states(rt: &impl Print) -> io::Result<()> {
+    try_fresh(rt, 0)?;
+    try_fresh(rt, books::LEAST_WORDS - 1)?;
+    try_fresh(rt, books::LEAST_WORDS)
 }
 
 // A memory that is no state (22), where a buffer that is too short is found first (21).
-fn try_garbage() {
-    say(b"garbage\n");
+fn try_garbage(rt: &impl Print) -> io::Result<()> {
+    say(rt, b"garbage\n")?;
     let mut mem = filled(GARBAGE);
-    try_record(&mut mem, WORDS, 31, b"O\n");
-    try_record(&mut mem, WORDS, 32, b"O\n");
-    try_closing(&mem, WORDS, 95, 0);
-    try_closing(&mem, WORDS, 96, 0);
+    try_record(rt, &mut mem, WORDS, 31, b"O\n")?;
+    try_record(rt, &mut mem, WORDS, 32, b"O\n")?;
+    try_closing(rt, &mem, WORDS, 95, 0)?;
+    try_closing(rt, &mem, WORDS, 96, 0)
 }
 
 // Memories that are too short for groups and symbols (22).
-fn try_short_memories() {
-    say(b"too short for groups and symbols\n");
+fn try_short_memories(rt: &impl Print) -> io::Result<()> {
+    say(rt, b"too short for groups and symbols\n")?;
     let words = books::LEAST_WORDS - 1;
     let mut mem = filled(0);
-    try_record(&mut mem, 0, 32, b"O\n");
-    try_record(&mut mem, words, 32, b"O\n");
-    try_closing(&mem, words, 96, 0);
+    try_record(rt, &mut mem, 0, 32, b"O\n")?;
+    try_record(rt, &mut mem, words, 32, b"O\n")?;
+    try_closing(rt, &mem, words, 96, 0)
 }
 
 // A fresh state: a place that no group has yet (5), buffers that are too short for an answer line (21), and one that is just long enough.
-fn try_buffers(mem: &mut [u64; WORDS]) {
-    say(b"a fresh state\n");
+fn try_buffers(rt: &impl Print, mem: &mut [u64; WORDS]) -> io::Result<()> {
+    say(rt, b"a fresh state\n")?;
     let group = b"G\tABCD\t100\t100\t100\t100\t100\t100\t100\tN\n";
-    try_closing(mem, WORDS, 96, 0);
-    try_record(mem, WORDS, 0, group);
-    try_record(mem, WORDS, 31, group);
-    try_record(mem, WORDS, 32, group);
+    try_closing(rt, mem, WORDS, 96, 0)?;
+    try_record(rt, mem, WORDS, 0, group)?;
+    try_record(rt, mem, WORDS, 31, group)?;
+    try_record(rt, mem, WORDS, 32, group)
 }
 
 // A buffer that is too short for a closing line (21), one that is just long enough and a longer one; and places that no group has (5).
-fn try_closings(mem: &[u64; WORDS]) {
-    say(b"one group\n");
-    try_closing(mem, WORDS, 95, 0);
-    try_closing(mem, WORDS, 96, 0);
-    try_closing(mem, WORDS, BYTES, 0);
-    try_closing(mem, WORDS, 96, 1);
-    try_closing(mem, WORDS, 96, 64);
-    try_closing(mem, WORDS, 96, usize::MAX);
+fn try_closings(rt: &impl Print, mem: &[u64; WORDS]) -> io::Result<()> {
+    say(rt, b"one group\n")?;
+    try_closing(rt, mem, WORDS, 95, 0)?;
+    try_closing(rt, mem, WORDS, 96, 0)?;
+    try_closing(rt, mem, WORDS, BYTES, 0)?;
+    try_closing(rt, mem, WORDS, 96, 1)?;
+    try_closing(rt, mem, WORDS, 96, 64)?;
+    try_closing(rt, mem, WORDS, 96, usize::MAX)
 }
 
 // Judges the lines of a text, each with 32 bytes for its answer.
-fn try_lines(mem: &mut [u64; WORDS], text: &[u8]) {
+fn try_lines(rt: &impl Print, mem: &mut [u64; WORDS], text: &[u8]) -> io::Result<()> {
     let mut at = 0;
     loop {
         let line = lines::line_at(text, at);
         if line.len() == 0 {
             break;
         }
-        try_record(mem, WORDS, 32, line);
+        try_record(rt, mem, WORDS, 32, line)?;
         at += line.len();
     }
+    Ok(())
 }
 
 // Before O: a group that is listed (3), a request (2), a line that ends in CR, one without LF and no byte at all (1) have no effect.
-fn try_setup(mem: &mut [u64; WORDS]) {
+fn try_setup(rt: &impl Print, mem: &mut [u64; WORDS]) -> io::Result<()> {
     try_lines(
+        rt,
         mem,
         b"G\tABCD\t1\t1\t1\t1\t1\t1\t100\tN\nN\tT1\tABCD\t7\tB\t1\t100\nO\r\n",
-    );
-    try_record(mem, WORDS, 32, b"O");
-    try_record(mem, WORDS, 32, b"");
-    try_lines(mem, b"S\t7\nO\n");
+    )?;
+    try_record(rt, mem, WORDS, 32, b"O")?;
+    try_record(rt, mem, WORDS, 32, b"")?;
+    try_lines(rt, mem, b"S\t7\nO\n")
 }
 
 // After O: a symbol (2), a request of no group (5), one that is repeated, one that differs (6) and one without a place (7) have no effect.
-fn try_requests(mem: &mut [u64; WORDS]) {
-    say(b"opened\n");
-    try_lines(mem, b"S\t8\nN\tT1\tWXYZ\t7\tB\t1\t100\n");
+fn try_requests(rt: &impl Print, mem: &mut [u64; WORDS]) -> io::Result<()> {
+    say(rt, b"opened\n")?;
+    try_lines(rt, mem, b"S\t8\nN\tT1\tWXYZ\t7\tB\t1\t100\n")?;
     try_lines(
+        rt,
         mem,
         b"N\tT1\tABCD\t7\tB\t1\t100\nN\tT1\tABCD\t7\tB\t1\t100\n",
-    );
+    )?;
     try_lines(
+        rt,
         mem,
         b"N\tT1\tABCD\t7\tB\t2\t100\nN\tT2\tABCD\t7\tB\t1\t100\n",
-    );
+    )
 }
 
 // A notice whose number is above last + 1 (18) and one that was seen have no effect.
-fn try_notices(mem: &mut [u64; WORDS]) {
-    try_lines(mem, b"Q\t2\t7\t0\t0\nQ\t1\t7\t0\t0\nQ\t1\t7\t0\t0\n");
-    try_closing(mem, WORDS, 96, 0);
+fn try_notices(rt: &impl Print, mem: &mut [u64; WORDS]) -> io::Result<()> {
+    try_lines(rt, mem, b"Q\t2\t7\t0\t0\nQ\t1\t7\t0\t0\nQ\t1\t7\t0\t0\n")?;
+    try_closing(rt, mem, WORDS, 96, 0)
 }
 
-fn main() {
-    try_fresh_states();
-    try_garbage();
-    try_short_memories();
+fn main(rt: HostRuntime) -> io::Result<()> {
+    try_fresh_states(&rt)?;
+    try_garbage(&rt)?;
+    try_short_memories(&rt)?;
     let mut mem = filled(GARBAGE);
     store::make_fresh(&mut mem);
-    try_buffers(&mut mem);
-    try_closings(&mem);
-    try_setup(&mut mem);
-    try_requests(&mut mem);
-    try_notices(&mut mem);
+    try_buffers(&rt, &mut mem)?;
+    try_closings(&rt, &mem)?;
+    try_setup(&rt, &mut mem)?;
+    try_requests(&rt, &mut mem)?;
+    try_notices(&rt, &mut mem)
 }

@@ -6,22 +6,39 @@
 // For each vector a line is written: "write", the number and every byte of the output; or "read", the number and, where that is 0, the places
 // of identifier and MPID in the message, symbol, side, size and price, and the N's line.
 #![tactic(auto)]
-ghost use Rattle.std.specs.Prelude.{◌≤◌, ◌<◌, length};
+
+ghost use Rattle.std.specs.Prelude.{◌≤◌, ◌<◌, length, IfOk};
 
 use codec::Reading;
 use fields::{Place, Written};
-use libc::{STDIN_FILENO, STDOUT_FILENO};
 use meo::{Found, NewOrder, Sent};
+use std::io;
+use std::io::Read;
 
 const MOST: usize = 200;
 
-fn say(text: &[u8]) {
-    io::write_all(STDOUT_FILENO, text);
+fn say(rt: &impl Print, text: &[u8]) -> io::Result<()> {
+    rt.write_all(text)
 }
 
-fn say_number(n: u64) {
-    say(b" ");
-    io::print_decimal(STDOUT_FILENO, n);
+// Reads until the buffer is full or the input ends, and answers how many bytes came.
+fn read_full(input: &mut impl Read, to: &mut [u8]) -> io::Result<usize>
+    ensures { IfOk result (λ n. n ≤ length to.new) }
+{
+    let mut done = 0;
+    while done < to.len() {
+        let count = input.read(&mut to[done..])?;
+        if count == 0 {
+            break;
+        }
+        done += count;
+    }
+    Ok(done)
+}
+
+fn say_number(rt: &impl Print, n: u64) -> io::Result<()> {
+    say(rt, b" ")?;
+    print!(rt; "{n}")
 }
 
 fn digit_value(digit: u8) -> u8
@@ -56,18 +73,19 @@ fn from_hex(text: &[u8], to: &mut [u8]) -> usize {
     count
 }
 
-fn say_byte(b: u8) {
-    say(&[digit_of(b / 16), digit_of(b % 16)]);
+fn say_byte(rt: &impl Print, b: u8) -> io::Result<()> {
+    say(rt, &[digit_of(b / 16), digit_of(b % 16)])
 }
 
 // Says bytes in hex, `-` where there are none.
-fn say_hex(bytes: &[u8]) {
+fn say_hex(rt: &impl Print, bytes: &[u8]) -> io::Result<()> {
     if bytes.len() == 0 {
-        say(b"-");
+        say(rt, b"-")?;
     }
     for i in 0..bytes.len() {
-        say_byte(bytes[i]);
+        say_byte(rt, bytes[i])?;
     }
+    Ok(())
 }
 
 // The end of the word that begins at a place: the next space, or the text's end.
@@ -126,30 +144,30 @@ fn write_within(size: usize, house: &[u8], line: &[u8], to: &mut [u8]) -> u64 {
     number_of(meo::write(line, n, house, &mut to[0..size]))
 }
 
-fn test_write(size: usize, house: &[u8], line: &[u8]) {
+fn test_write(rt: &impl Print, size: usize, house: &[u8], line: &[u8]) -> io::Result<()> {
     let mut out = [0xaau8; MOST];
     let number = write_within(size, house, line, &mut out);
-    say(b"write");
-    say_number(number);
-    say(b" ");
-    say_hex(word(&out, 0, size));
-    say(b"\n");
+    say(rt, b"write")?;
+    say_number(rt, number)?;
+    say(rt, b" ")?;
+    say_hex(rt, word(&out, 0, size))?;
+    say(rt, b"\n")
 }
 
 // Says an N: its fields, and its line.
-fn say_order(message: &[u8], n: NewOrder) {
+fn say_order(rt: &impl Print, message: &[u8], n: NewOrder) -> io::Result<()> {
     let name = n.name;
     let mpid = n.mpid;
-    say_number(name.from as u64);
-    say_number(name.to as u64);
-    say_number(mpid.from as u64);
-    say_number(mpid.to as u64);
-    say_number(n.symbol);
-    say(b" ");
-    say(&[n.side]);
-    say_number(n.size);
-    say_number(n.price);
-    say(b" ");
+    say_number(rt, name.from as u64)?;
+    say_number(rt, name.to as u64)?;
+    say_number(rt, mpid.from as u64)?;
+    say_number(rt, mpid.to as u64)?;
+    say_number(rt, n.symbol)?;
+    say(rt, b" ")?;
+    say(rt, &[n.side])?;
+    say_number(rt, n.size)?;
+    say_number(rt, n.price)?;
+    say(rt, b" ")?;
     let record = Reading::New {
         name,
         mpid,
@@ -160,30 +178,30 @@ fn say_order(message: &[u8], n: NewOrder) {
     };
     let mut line = [0u8; MOST];
     if let Written::Bytes(count) = codec::write_record(message, record, &mut line) {
-        say_hex(word(&line, 0, count));
+        say_hex(rt, word(&line, 0, count))?;
     }
+    Ok(())
 }
 
-fn test_read(message: &[u8]) {
-    say(b"read");
+fn test_read(rt: &impl Print, message: &[u8]) -> io::Result<()> {
+    say(rt, b"read")?;
     match meo::read(message) {
         Found::Order(n) => {
-            say_number(0);
-            say_order(message, n);
+            say_number(rt, 0)?;
+            say_order(rt, message, n)?;
         }
-        Found::BadMessage => say_number(41),
-        Found::BadOrder => say_number(42),
+        Found::BadMessage => say_number(rt, 41)?,
+        Found::BadOrder => say_number(rt, 42)?,
     }
-    say(b"\n");
+    say(rt, b"\n")
 }
 
-fn test_vector(text: &[u8]) {
+fn test_vector(rt: &impl Print, text: &[u8]) -> io::Result<()> {
     let a = word_end(text, 0);
     let mut first = [0u8; MOST];
     if fields::byte_at(text, 0) == b'r' {
         let count = from_hex(word(text, a + 1, text.len()), &mut first);
-        test_read(word(&first, 0, count));
-        return;
+        return test_read(rt, word(&first, 0, count));
     }
     let b = word_end(text, a + 1);
     let c = word_end(text, b + 1);
@@ -191,24 +209,26 @@ fn test_vector(text: &[u8]) {
     let house = from_hex(word(text, b + 1, c), &mut first);
     let line = from_hex(word(text, c + 1, text.len()), &mut second);
     test_write(
+        rt,
         size_of(word(text, a + 1, b)),
         word(&first, 0, house),
         word(&second, 0, line),
-    );
+    )
 }
 
-fn test_vectors(input: &[u8]) {
+fn test_vectors(rt: &impl Print, input: &[u8]) -> io::Result<()> {
     let mut start = 0;
     for end in 0..input.len() {
         if input[end] == b'\n' {
-            test_vector(&input[start..end]);
+            test_vector(rt, &input[start..end])?;
             start = end + 1;
         }
     }
+    Ok(())
 }
 
-fn main() {
-    let mut input = io::large_buffer();
-    let count = io::read_full(STDIN_FILENO, &mut input);
-    test_vectors(&input[..count]);
+fn main(rt: HostRuntime) -> io::Result<()> {
+    let mut input = [0; 65536];
+    let count = read_full(&mut rt.stdin(), &mut input)?;
+    test_vectors(&rt, &input[..count])
 }

@@ -1,8 +1,9 @@
 // Reads a million lines and writes each back, a line of every kind in turn, and says how many came
 // back the same.
 #![tactic(auto)]
+
 use fields::{Place, Written};
-use libc::STDOUT_FILENO;
+use std::io;
 
 const TURNS: u64 = 1_000_000;
 
@@ -12,7 +13,7 @@ fn comes_back(line: &[u8]) -> bool {
     let Written::Bytes(count) = codec::write_record(line, codec::read(line), &mut back) else {
         return false;
     };
-    check::same(line, fields::part(&back, Place { from: 0, to: count }))
+    line == fields::part(&back, Place { from: 0, to: count })
 }
 
 // The same of the line whose turn it is.
@@ -45,7 +46,7 @@ fn count_back() -> u64 {
     count
 }
 
-fn main() {
-    io::print_decimal(STDOUT_FILENO, count_back());
-    io::write_all(STDOUT_FILENO, b"\n");
+fn main(rt: HostRuntime) -> io::Result<()> {
+    let count = count_back();
+    println!(rt; "{count}")
 }

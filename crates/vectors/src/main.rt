@@ -7,11 +7,13 @@
 // closing lines. Where a text breaks a rule of room, the next line has "room" and the number of the
 // vector, or of the text among those last ones.
 #![tactic(auto)]
-ghost use Rattle.std.specs.Prelude.{◌≤◌, ◌<◌};
+
+ghost use Rattle.std.specs.Prelude.{◌≤◌, ◌<◌, length, IfOk};
 
 use codec::Reading;
 use fields::{Place, Written};
-use libc::{STDIN_FILENO, STDOUT_FILENO};
+use std::io;
+use std::io::Read;
 
 // MPIDs as words, the first byte lowest.
 const ABCD: u64 = 0x4443_4241;
@@ -40,8 +42,23 @@ struct Step {
     width: usize,
 }
 
-fn say(text: &[u8]) {
-    io::write_all(STDOUT_FILENO, text);
+fn say(rt: &impl Print, text: &[u8]) -> io::Result<()> {
+    rt.write_all(text)
+}
+
+// Reads until the buffer is full or the input ends, and answers how many bytes came.
+fn read_full(input: &mut impl Read, to: &mut [u8]) -> io::Result<usize>
+    ensures { IfOk result (λ n. n ≤ length to.new) }
+{
+    let mut done = 0;
+    while done < to.len() {
+        let count = input.read(&mut to[done..])?;
+        if count == 0 {
+            break;
+        }
+        done += count;
+    }
+    Ok(done)
 }
 
 fn hex_value(digit: u8) -> u8
@@ -170,7 +187,7 @@ fn same_from(at: usize, a: &[u8], b: &[u8]) -> bool {
             to: b.len(),
         },
     );
-    check::same(rest_of_a, rest_of_b)
+    rest_of_a == rest_of_b
 }
 
 // Whether a text goes whole into room for it and for more, does not go into one byte less at all,
@@ -201,85 +218,94 @@ fn keeps_to_room(text: Text, line: &[u8]) -> bool {
     same_from(0, &short, &untouched)
 }
 
-fn test_room(number: u64, text: Text, line: &[u8]) {
+fn test_room(rt: &impl Print, number: u64, text: Text, line: &[u8]) -> io::Result<()> {
     if !keeps_to_room(text, line) {
-        say(b"room\t");
-        io::print_decimal(STDOUT_FILENO, number);
-        say(b"\n");
+        say(rt, b"room\t")?;
+        print!(rt; "{number}")?;
+        say(rt, b"\n")?;
     }
+    Ok(())
 }
 
 // Says a text, escaped.
-fn say_text(text: Text, line: &[u8]) {
+fn say_text(rt: &impl Print, text: Text, line: &[u8]) -> io::Result<()> {
     let mut bytes = [0u8; 200];
     let Written::Bytes(count) = write_text(text, line, &mut bytes) else {
-        return;
+        return Ok(());
     };
     let mut escaped = [0u8; 400];
     let width = escape(
         fields::part(&bytes, Place { from: 0, to: count }),
         &mut escaped,
     );
-    say(fields::part(&escaped, Place { from: 0, to: width }));
+    say(rt, fields::part(&escaped, Place { from: 0, to: width }))
 }
 
-fn test_vector(number: u64, text: &[u8]) {
+fn test_vector(rt: &impl Print, number: u64, text: &[u8]) -> io::Result<()> {
     let mut bytes = [0u8; 400];
     let count = unescape(text, &mut bytes);
     let line = fields::part(&bytes, Place { from: 0, to: count });
     let record = codec::read(line);
     if let Reading::Broken = record {
-        say(b"refused\n");
-        return;
+        return say(rt, b"refused\n");
     }
-    say(b"taken\t");
-    say(&[codec::kind_letter(record)]);
-    say(b"\t");
-    say_text(Text::Record(record), line);
-    say(b"\t");
-    say_text(Text::Answer(record), line);
-    say(b"\n");
-    test_room(number, Text::Record(record), line);
-    test_room(number, Text::Answer(record), line);
+    say(rt, b"taken\t")?;
+    say(rt, &[codec::kind_letter(record)])?;
+    say(rt, b"\t")?;
+    say_text(rt, Text::Record(record), line)?;
+    say(rt, b"\t")?;
+    say_text(rt, Text::Answer(record), line)?;
+    say(rt, b"\n")?;
+    test_room(rt, number, Text::Record(record), line)?;
+    test_room(rt, number, Text::Answer(record), line)
 }
 
-fn test_vectors(input: &[u8]) {
+fn test_vectors(rt: &impl Print, input: &[u8]) -> io::Result<()> {
     let mut start = 0;
     let mut number = 0;
     for end in 0..input.len() {
         if input[end] == b'\n' {
             number += 1;
-            test_vector(number, &input[start..end]);
+            test_vector(rt, number, &input[start..end])?;
             start = end + 1;
         }
     }
+    Ok(())
 }
 
 // Says a text that is no vector's, and tests its room.
-fn test_fixed(number: u64, text: Text) {
-    say_text(text, b"");
-    say(b"\n");
-    test_room(number, text, b"");
+fn test_fixed(rt: &impl Print, number: u64, text: Text) -> io::Result<()> {
+    say_text(rt, text, b"")?;
+    say(rt, b"\n")?;
+    test_room(rt, number, text, b"")
 }
 
-fn test_closing(number: u64, closing: Closing) {
-    test_fixed(number, Text::Closing(closing));
+fn test_closing(rt: &impl Print, number: u64, closing: Closing) -> io::Result<()> {
+    test_fixed(rt, number, Text::Closing(closing))
 }
 
 // A refusal, and closing lines: all totals 0, all at the ceiling, and totals that are told apart.
-fn test_fixed_texts() {
-    test_fixed(1, Text::Refusal);
-    test_closing(2, Closing(ABCD, 0, 0, 0, 0, false));
-    test_closing(3, Closing(ABCD, 0, 0, 0, 0, true));
-    test_closing(4, Closing(ABCD, CEILING, CEILING, CEILING, CEILING, false));
-    test_closing(5, Closing(ABCD, CEILING, CEILING, CEILING, CEILING, true));
-    test_closing(6, Closing(ABCD, 399_600_000, 0, 0, 0, false));
-    test_closing(7, Closing(Z9A0, 1, 22, 333, 4444, true));
+fn test_fixed_texts(rt: &impl Print) -> io::Result<()> {
+    test_fixed(rt, 1, Text::Refusal)?;
+    test_closing(rt, 2, Closing(ABCD, 0, 0, 0, 0, false))?;
+    test_closing(rt, 3, Closing(ABCD, 0, 0, 0, 0, true))?;
+    test_closing(
+        rt,
+        4,
+        Closing(ABCD, CEILING, CEILING, CEILING, CEILING, false),
+    )?;
+    test_closing(
+        rt,
+        5,
+        Closing(ABCD, CEILING, CEILING, CEILING, CEILING, true),
+    )?;
+    test_closing(rt, 6, Closing(ABCD, 399_600_000, 0, 0, 0, false))?;
+    test_closing(rt, 7, Closing(Z9A0, 1, 22, 333, 4444, true))
 }
 
-fn main() {
-    let mut input = io::large_buffer();
-    let count = io::read_full(STDIN_FILENO, &mut input);
-    test_vectors(&input[..count]);
-    test_fixed_texts();
+fn main(rt: HostRuntime) -> io::Result<()> {
+    let mut input = [0; 65536];
+    let count = read_full(&mut rt.stdin(), &mut input)?;
+    test_vectors(&rt, &input[..count])?;
+    test_fixed_texts(&rt)
 }
