@@ -1,5 +1,6 @@
 // A line's fields: read as stretches of the lent line, numbers and letters; and written one after the other.
 #![tactic(auto)]
+
 ghost use Rattle.std.specs.Prelude.{◌≡◌, true, ◌&&◌, [], ◌∷◌, ◌++◌, ◌+◌, ◌-◌, ◌≤◌, eqb, length, take, drop, get_or};
 ghost use Rattle.rulebook.specs.Lines.{ceiling, text, letter, number, buy, identifier, mpid, serial, side, size, price, quoted, limit, yes_no};
 ghost use Rattle.fields.specs.Digits.{digits, digit_step, number_of};

@@ -1,5 +1,6 @@
 // The net of what is bought and what is sold, with its sign, and its size.
 #![tactic(auto)]
+
 ghost use Rattle.std.specs.Prelude.{◌≡◌, ◌≤◌, ◌<◌, ◌^◌, nat_abs};
 ghost use Rattle.rulebook.specs.Kept.{net};
 

@@ -1,5 +1,6 @@
 // Identifiers, targets, MPIDs and a message's numbers packed into words, and whether words, letters and numbers have document 01's forms.
 #![tactic(auto)]
+
 ghost use Rattle.std.specs.Prelude.{◌≡◌, ◌+◌, ◌≤◌, ◌<◌, length, take, drop};
 ghost use Rattle.laws.specs.Tables.{All};
 ghost use Rattle.rulebook.specs.Names.{bytes, word, ident_of};
