@@ -1,7 +1,7 @@
 /* A host in C that lends the lines as they come, many at once: a day's lines on standard input, answer lines and then closing lines on standard
  * output, as the program `gate` does.
  *
- *   rt staticlib host
+ *   tools/archive
  *   cc -O2 -I include examples/blocks.c target/staticlib/libhost.a -o blocks && ./blocks < examples/document-01.in */
 #define _POSIX_C_SOURCE 200809L
 #include "ticketmoss.h"

@@ -1,7 +1,7 @@
 //! A host in Rust that lends the lines as they come, many at once: a day's lines on standard input, answer lines and then closing lines on standard
 //! output, as the program `gate` does.
 //!
-//!   rt staticlib host
+//!   tools/archive
 //!   rustc -O --edition 2021 examples/blocks.rs -C link-arg=target/staticlib/libhost.a -o blocks && ./blocks < examples/document-01.in
 use std::io::{Read, Write};
 

@@ -1,6 +1,6 @@
 /* A host in C: a day's lines on standard input, answer lines and then closing lines on standard output, as the program `gate` does.
  *
- *   rt staticlib host
+ *   tools/archive
  *   cc -O2 -I include examples/host.c target/staticlib/libhost.a -o host && ./host < examples/document-01.in */
 #define _POSIX_C_SOURCE 200809L
 #include "ticketmoss.h"

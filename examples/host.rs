@@ -1,6 +1,6 @@
 //! A host in Rust: a day's lines on standard input, answer lines and then closing lines on standard output, as the program `gate` does.
 //!
-//!   rt staticlib host
+//!   tools/archive
 //!   rustc -O --edition 2021 examples/host.rs -C link-arg=target/staticlib/libhost.a -o host && ./host < examples/document-01.in
 use std::io::{BufRead, Write};
 

@@ -1,7 +1,7 @@
 /* A host in C that sends: a day's lines on standard input, and on standard output, in hex, the exchange's New Order Request of each N that is to
  * be sent.
  *
- *   rt staticlib host
+ *   tools/archive
  *   cc -O2 -I include examples/orders.c target/staticlib/libhost.a -o orders && ./orders < examples/document-01.in */
 #define _POSIX_C_SOURCE 200809L
 #include "ticketmoss.h"

@@ -1,4 +1,4 @@
-/* Ticketmoss for hosts in C and C++: the proved calls of target/staticlib/libhost.a (`rt staticlib host`), for Linux on x86-64.
+/* Ticketmoss for hosts in C and C++: the proved calls of target/staticlib/libhost.a (`tools/archive`), for Linux on x86-64.
  *
  * The gate keeps nothing of its own. A host lends it words, the state, a line and a buffer, and lends the same words again for the next record.
  * The calls about order messages are lent no state. No call allocates, blocks, reads a clock or keeps a pointer. Every call ends with an answer
