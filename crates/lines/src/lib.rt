@@ -1,6 +1,7 @@
 // The splitting of an input into lines, a block at a time. A line that lies in a block is a part of it, never a copy; only what follows a
 // block's last LF is moved, to the front, where the next block is read after it.
 #![tactic(auto)]
+
 ghost use Rattle.std.specs.Prelude.{◌≡◌, ◌+◌, ◌≤◌, max, length};
 ghost use Rattle.fields.specs.Parts.{stretch};
 ghost use Rattle.lines.specs.Splitting.{lent, line_at, to_front};

@@ -1,11 +1,11 @@
 -- `lines::keep_rest` meets its contract: after each turn one byte more is at the front, and the others stand where they stood.
 use mathlib.Core.Path.{◌≡◌, refl, ap, ◌∙◌}
-use Prim.Native.Nat.{◌+◌, ◌-◌}
+use Prim.Native.Nat.{◌+◌}
 use native.Mathlib.Omega.{arith}
 use borrow.Author.Rules.{rules}
 use lib.ListN.{length, set, get_or, take, length-take}
 use Rattle.fields.specs.Parts.{stretch}
-use Rattle.lines.specs.Fronts.{front, moved, front_within, moved_length, moved_next, moved_all}
+use Rattle.lines.specs.Fronts.{front, moved, front_within, moved_next, moved_all}
 use Rattle.lines.proofs.keep_rest.Goals as goal
 
 pub loop-i-init : goal.loop-i-init
@@ -19,26 +19,19 @@ overflow_add-text c =
 
 pub bounds-text-from : goal.bounds-text-from
 bounds-text-from c =
-    let t = c.args.text.now in
-    let h = front_within t c.args.from c.args.to c.loop-i.i (omega arith) in
-    let n = ap length c.loop-i.invariant.2 ∙ moved_length t c.args.from c.args.to c.loop-i.i (omega arith) in
-    omega (arith, h.0, n)
+    let h = front_within c.args.text.now c.args.from c.args.to c.loop-i.i (omega arith) in
+    omega (arith, h.0)
 
 pub bounds-text-i : goal.bounds-text-i
 bounds-text-i c =
-    let t = c.args.text.now in
-    let h = front_within t c.args.from c.args.to c.loop-i.i (omega arith) in
-    let n = ap length c.loop-i.invariant.2 ∙ moved_length t c.args.from c.args.to c.loop-i.i (omega arith) in
-    omega (arith, h.1, n)
+    let h = front_within c.args.text.now c.args.from c.args.to c.loop-i.i (omega arith) in
+    omega (arith, h.1)
 
 pub loop-i-preserved : goal.loop-i-preserved
 loop-i-preserved c =
     let t = c.args.text.now in
     let i = c.loop-i.i in
     (c.loop-i.invariant.0, omega arith, ap (λ l. set l i (get_or l (c.args.from + i) 0)) c.loop-i.invariant.2 ∙ moved_next t c.args.from c.args.to i (omega arith))
-
-pub TODO-same_length : goal.TODO-same_length
-TODO-same_length c = ap length c.loop-i.invariant.2 ∙ moved_length c.args.text.now c.args.from c.args.to c.loop-i.i (omega arith)
 
 pub returns : goal.returns
 returns c =

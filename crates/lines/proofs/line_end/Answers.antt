@@ -1,6 +1,6 @@
 -- `lines::line_end` meets its contract: up to each place passed no LF stands, so the line begins with the stretch up to there.
 use mathlib.Core.Path.{◌≡◌, sym, ap, ◌∙◌}
-use Prim.Native.Nat.{◌+◌, ◌-◌, ◌<◌}
+use Prim.Native.Nat.{◌+◌, ◌<◌}
 use native.Mathlib.Omega.{arith}
 use borrow.Author.Rules.{rules}
 use lib.ListN.{length, drop, drop_of_length-le}
