@@ -18,7 +18,8 @@ use Rattle.fields.specs.Widths.{widths, line_width}
 use Rattle.fields.specs.Values.{mpid_solid}
 use Rattle.fields.specs.Packing.{Solid}
 use Rattle.codec.specs.Readings.{record_of, reading}
-use Rattle.codec.specs.Lines.{InForm, letter_same, read_formed, read_in_form}
+use Rattle.codec.specs.Lines.{InForm}
+use Rattle.codec.proofs.Lines.{letter_same, read_formed, read_in_form}
 use Rattle.codec.specs.declared.Reading.{Reading}
 use Rattle.codec.specs.declared.Reading.TheVariants.{Broken, Group, Symbol, Open, New, Change, Cancel, Block, Unblock, Quote, Fill, Reduction, CancelRefused}
 use Rattle.answers.specs.Answering.{name_bytes, answer_fields, answer_bytes, low_bytes, closing_fields, closing_bytes}

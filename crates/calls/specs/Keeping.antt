@@ -14,7 +14,7 @@ use Rattle.fields.specs.Out.{Left, left, room_number, refuses, begun}
 use Rattle.fields.specs.Puts.{room}
 use Rattle.fields.specs.declared.Written.{Written}
 use Rattle.fields.specs.declared.Written.TheVariants.{Bytes, NoRoom}
-use Rattle.codec.specs.Lines.{read_formed}
+use Rattle.codec.proofs.Lines.{read_formed}
 use Rattle.answers.specs.Lines.{gate_answer, gate_closing}
 use Rattle.books.specs.Layout.{least_words}
 use Rattle.books.specs.View.{view}

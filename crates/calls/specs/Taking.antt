@@ -9,7 +9,7 @@ use Rattle.fields.specs.Out.{begun}
 use Rattle.books.specs.Writing.{write}
 use Rattle.rules.specs.Testing.{state_ok}
 use Rattle.lines.specs.Splitting.{whole, line_at}
-use Rattle.lines.specs.Places.{step_on, step_none}
+use Rattle.lines.proofs.Places.{step_on, step_none}
 use Rattle.calls.specs.Calling.{bytes_said, verdict_on, answer_to, Recorded, record_left, recorded}
 use Rattle.calls.specs.Keeping.{too_short, state_bad, not_refused, short_buffer, bad_state, judged_line, state_kept, answer_written}
 use Rattle.calls.specs.Blocks.{Block, idle, before, one_by_one, asked, blocked, took, block_left}

@@ -1,6 +1,6 @@
 -- The checks as the code tries them: what it asks of its numbers, the parts that have a function of their own, and the laws by which
 -- each test that the code makes is the check's.
-use Rattle.std.specs.Prelude.{◌≡◌, refl, Bool, false, not, ◌&&◌, cond, List, [], ◌∷◌, ℕ, ◌-◌, ◌≤◌, ◌<◌, ltb, length}
+use Rattle.std.specs.Prelude.{◌≡◌, refl, Bool, false, not, ◌&&◌, cond, List, ◌∷◌, ℕ, ◌-◌, ◌≤◌, ◌<◌, ltb, length}
 use Rattle.std.proofs.Math.Option.{Option, none, some}
 use Prim.Native.Char.{code}
 use Rattle.std.proofs.Common.{arith, lt-ltb, le-ltb}

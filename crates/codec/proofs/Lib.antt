@@ -1,1 +1,4 @@
 pub mod Single
+pub mod EachKind
+pub mod Lines
+pub mod Examples

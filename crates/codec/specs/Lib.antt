@@ -1,7 +1,5 @@
 -- what a line's reading is, and a record's line
 pub mod Readings
 pub mod Writing
--- and their theorems
-pub mod Kinds
+-- and when a reading's fields are in their forms
 pub mod Lines
-pub mod Examples

@@ -8,9 +8,9 @@ use Rattle.books.specs.View.{view}
 use Rattle.books.specs.Writing.{write}
 use Rattle.rules.specs.Testing.{state_ok}
 use Rattle.lines.specs.Splitting.{whole, rest, last, lent}
-use Rattle.lines.specs.Places as places
-use Rattle.lines.specs.Places.{lines_taken, taken_some, none_ends}
-use Rattle.lines.specs.Lending.{Line, whole_lines, lent_says}
+use Rattle.lines.proofs.Places as places
+use Rattle.lines.proofs.Places.{lines_taken, taken_some, none_ends}
+use Rattle.lines.proofs.Lending.{Line, whole_lines, lent_says}
 use Rattle.calls.specs.Calling.{recorded}
 use Rattle.calls.specs.Blocks.{Block, one_by_one, blocked, took, block_left}
 use Rattle.calls.specs.Taking.{tail, tail_is, Ran, ran, block_clear, block_judged, no_line}

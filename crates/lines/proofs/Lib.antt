@@ -1,1 +1,6 @@
 pub mod Single
+pub mod Joining
+pub mod Places
+pub mod Fronts
+pub mod Blocks
+pub mod Lending

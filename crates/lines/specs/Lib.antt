@@ -1,8 +1,4 @@
 -- the lines of an input
 pub mod Splitting
--- and its laws
-pub mod Joining
-pub mod Places
-pub mod Fronts
+-- and a day of blocks
 pub mod Blocks
-pub mod Lending

@@ -14,7 +14,8 @@ use Rattle.fields.specs.Trips.{says_has}
 use Rattle.fields.specs.Out.{Said, refuses, begun}
 use Rattle.packing.specs.Exactly.{letter_exactly, number_exactly}
 use Rattle.codec.specs.Readings.{record_of, letter_of, reading}
-use Rattle.codec.specs.Lines.{InForm, read_in_form}
+use Rattle.codec.specs.Lines.{InForm}
+use Rattle.codec.proofs.Lines.{read_in_form}
 use Rattle.codec.specs.declared.Reading.{Reading}
 use Rattle.codec.specs.declared.Reading.TheVariants.{Broken, Group, Symbol, Open, New, Change, Cancel, Block, Unblock, Quote, Fill, Reduction, CancelRefused}
 use Rattle.meo.specs.Table.{Order, table}

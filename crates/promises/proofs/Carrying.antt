@@ -12,7 +12,7 @@ use Rattle.rulebook.specs.Rules.{Sound}
 use Rattle.rulebook.proofs.Keeping.{step_sound}
 use Rattle.rulebook.proofs.Sums as sums
 use Rattle.codec.specs.Readings.{reading}
-use Rattle.codec.specs.Lines.{read_formed}
+use Rattle.codec.proofs.Lines.{read_formed}
 use Rattle.answers.specs.Answering.{answer_bytes}
 use Rattle.answers.specs.Lines.{gate_answer}
 use Rattle.books.specs.View.{view}

@@ -13,7 +13,7 @@ use Rattle.rulebook.specs.Day.{run, no_marks, noted}
 use Rattle.rulebook.proofs.Examples.{judging}
 use Rattle.fields.specs.Digits.{digits, digits_in}
 use Rattle.fields.specs.Series.{tails}
-use Rattle.codec.specs.Examples.{printed, computing, sample_lines}
+use Rattle.codec.proofs.Examples.{printed, computing, sample_lines}
 use Rattle.answers.specs.Answering.{closing_bytes}
 use Rattle.books.specs.Layout.{least_words, place_words, room_for, room_of}
 use Rattle.books.specs.View.{view}

@@ -12,7 +12,7 @@ use Rattle.rulebook.specs.Day.{run, no_marks, noted}
 use Rattle.rulebook.specs.Account.{Told, desks}
 use Rattle.rulebook.proofs.Sums as sums
 use Rattle.rulebook.proofs.Examples.{judging}
-use Rattle.codec.specs.Examples.{printed, computing, sample_lines}
+use Rattle.codec.proofs.Examples.{printed, computing, sample_lines}
 use Rattle.books.specs.Layout.{least_words}
 use Rattle.books.specs.View.{view}
 use Rattle.store.specs.Making.{made_words}

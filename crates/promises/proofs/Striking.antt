@@ -17,7 +17,7 @@ use Rattle.rulebook.specs.Day.{step, Marks, no_marks, noted}
 use Rattle.rulebook.proofs.Retries.{request_exact, Linked, struck_nothing, linked_step, fresh_linked}
 use Rattle.fields.specs.Forms.{IsLine}
 use Rattle.codec.specs.Readings.{record_of}
-use Rattle.codec.specs.Lines.{read_line_of, one_line}
+use Rattle.codec.proofs.Lines.{read_line_of, one_line}
 use Rattle.calls.specs.Calling.{said_by}
 use Rattle.promises.specs.Day.{is_kind, Since, heard, same_bytes, among, last_taken, struck, strike}
 use Rattle.promises.specs.Kinds.{has_kind, deal_kinds, news_kinds}

@@ -1,6 +1,7 @@
 -- `calls::judge_line` meets its contract: the verdict's edit is stored, and its answer line has room.
 use mathlib.Core.Path.{sym, ◌∙◌, subst}
-use Rattle.codec.specs.Lines.{InForm, read_in_form}
+use Rattle.codec.specs.Lines.{InForm}
+use Rattle.codec.proofs.Lines.{read_in_form}
 use Rattle.rules.specs.Meaning.{exactly}
 use Rattle.edits.specs.Storing.{valid_last}
 use Rattle.fields.specs.Out.{begun}

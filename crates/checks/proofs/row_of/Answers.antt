@@ -1,7 +1,8 @@
 -- `checks::row_of` meets its contract: the price has reached each row's start, so it is among the prices of the row that ends the search.
 use mathlib.Core.Path.{ap, subst, ◌∙◌}
 use Prim.Native.Nat.{◌<◌}
-use Rattle.checks.specs.Protection.{row_said, terms, row_right}
+use Rattle.checks.specs.Protection.{row_said, terms}
+use Rattle.checks.proofs.Protection.{row_right}
 use Rattle.checks.specs.declared.Row.{Row}
 use Rattle.checks.proofs.row_of.Goals as goal
 

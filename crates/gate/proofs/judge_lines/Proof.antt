@@ -5,7 +5,7 @@ use Prim.Native.Nat.{◌+◌, ◌-◌, ◌≤◌}
 use native.Mathlib.Omega.{arith}
 use lib.ListN.{length, drop}
 use Rattle.lines.specs.Splitting.{rest}
-use Rattle.lines.specs.Places.{none_ends}
+use Rattle.lines.proofs.Places.{none_ends}
 use Rattle.calls.specs.Calling.{recorded}
 use Rattle.calls.specs.Blocks.{took, block_left}
 use Rattle.promises.specs.Day.{left}

@@ -5,7 +5,7 @@ use native.Mathlib.Omega.{arith}
 use borrow.Author.Rules.{rules}
 use lib.ListN.{length, set, get_or, take, length-take}
 use Rattle.fields.specs.Parts.{stretch}
-use Rattle.lines.specs.Fronts.{front, moved, front_within, moved_next, moved_all}
+use Rattle.lines.proofs.Fronts.{front, moved, front_within, moved_next, moved_all}
 use Rattle.lines.proofs.keep_rest.Goals as goal
 
 pub loop-i-init : goal.loop-i-init

@@ -1,7 +1,7 @@
 use mathlib.Core.Path.{◌≡◌}
 use Prim.Native.Nat.{◌-◌, ◌≤◌}
 use lib.ListN.{length}
-use Rattle.lines.specs.Fronts.{front, moved}
+use Rattle.lines.proofs.Fronts.{front, moved}
 use Rattle.lines.proofs.keep_rest.Given as goal
 
 abbrev pub invariant-loop-i : goal.invariant-loop-i

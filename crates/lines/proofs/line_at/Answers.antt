@@ -2,7 +2,7 @@
 use mathlib.Core.Path.{ap, ◌∙◌}
 use lib.ListN.{length}
 use Rattle.fields.specs.Parts.{stretch}
-use Rattle.lines.specs.Places.{line_stretch, line_within}
+use Rattle.lines.proofs.Places.{line_stretch, line_within}
 use Rattle.lines.proofs.line_at.Goals as goal
 
 pub returns : goal.returns

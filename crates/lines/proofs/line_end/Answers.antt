@@ -5,7 +5,7 @@ use native.Mathlib.Omega.{arith}
 use borrow.Author.Rules.{rules}
 use lib.ListN.{length, drop, drop_of_length-le}
 use Rattle.lines.specs.Splitting.{whole, first, line_at}
-use Rattle.lines.specs.Places.{stretch_none, length_stretch, line_goes_on, line_ends}
+use Rattle.lines.proofs.Places.{stretch_none, length_stretch, line_goes_on, line_ends}
 use Rattle.lines.proofs.line_end.Goals as goal
 
 pub loop-end-init : goal.loop-end-init

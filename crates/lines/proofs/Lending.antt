@@ -12,7 +12,8 @@ use Rattle.fields.specs.Numbers.{below}
 use Rattle.codec.specs.Readings.{record_of, reading}
 use Rattle.codec.specs.declared.Reading.TheVariants.{Broken}
 use Rattle.lines.specs.Splitting.{whole, rest, last, lines, lent}
-use Rattle.lines.specs.Blocks.{Clear, rest_clear, day, day_lines}
+use Rattle.lines.specs.Blocks.{Clear, day}
+use Rattle.lines.proofs.Blocks.{rest_clear, day_lines}
 
 -- ── a line has an LF at its end or nowhere ──
 pub record Line (l : List ℕ) : Type 0 where
