@@ -1,5 +1,6 @@
 // Requests and notices judged over the lent words: a number, and what is changed where it is 0.
 #![tactic(auto)]
+
 ghost use Rattle.std.specs.Prelude.{◌≡◌, ◌+◌, ◌≤◌, ◌<◌};
 ghost use Rattle.rulebook.specs.Lines.{is_buy};
 ghost use Rattle.laws.specs.Tables.{look, stay, puts};

@@ -6,7 +6,7 @@ use Rattle.store.specs.Finding.{named_by}
 use Rattle.rulings.proofs.block_ruling.Goals as goal
 
 pub tally_at-t-requires : goal.tally_at-t-requires
-tally_at-t-requires c = let s = c in let n = valid_counted s.args.mem.now s.requires.valid in record { counted = n; group_bound = omega (arith, n, s.requires.listed) }
+tally_at-t-requires c = let n = valid_counted c.args.mem.now c.requires.valid in record { counted = n; group_bound = omega (arith, n, c.requires.listed) }
 
 pub returns : goal.returns
-returns c = let s = c in block_granted s.args.mem.now (named_by s.args.key) s.args.group s.requires s.args.blocked _ c.tally_at-t.ensures
+returns c = block_granted c.args.mem.now (named_by c.args.key) c.args.group c.requires c.args.blocked _ c.tally_at-t.ensures

@@ -10,14 +10,11 @@ use Rattle.rulings.specs.Granting.{missing_held, target_there}
 use Rattle.rulings.specs.Rulings.{ruling_in_rows}
 use Rattle.rulings.proofs.cancel_ruling.Goals as goal
 
-pub find_order-i-requires : goal.find_order-i-requires
-find_order-i-requires c =record { valid = c.requires.desk.valid; indexed = c.requires.indexed }
-
 pub returns-then-i-mem : goal.returns-then-i-mem
-returns-then-i-mem c = let s = c in c.hold.ensures ∙ missing_held s.args.mem.now (named_by s.args.target) cancel_ruling (subst (λ (i : ℕ). head_in (rows_of s.args.mem.now) places_at ≤ i) c.find_order-i.ensures c.if-i-mem.true)
+returns-then-i-mem c = c.hold.ensures ∙ missing_held c.args.mem.now (named_by c.args.target) cancel_ruling (subst (λ (i : ℕ). head_in (rows_of c.args.mem.now) places_at ≤ i) c.find_order-i.ensures c.if-i-mem.true)
 
 pub cancel_at-requires : goal.cancel_at-requires
-cancel_at-requires c = let s = c in held s.args.mem.now (named_by s.args.target) s.args.group _ s.requires.desk (sym c.find_order-i.ensures) c.if-i-mem.false
+cancel_at-requires c = held c.args.mem.now (named_by c.args.target) c.args.group _ c.requires.desk (sym c.find_order-i.ensures) c.if-i-mem.false
 
 pub returns : goal.returns
-returns c = let s = c in let m = s.args.mem.now in c.cancel_at.ensures ∙ ap (λ i. ruling_in_rows (rows_of m) (cancel_ruling (order_of (rows_of m) i))) c.find_order-i.ensures ∙ ap (ruling_in_rows (rows_of m)) (sym (target_there m (named_by s.args.target) cancel_ruling (subst (λ (i : ℕ). i < head_in (rows_of m) places_at) c.find_order-i.ensures c.if-i-mem.false)))
+returns c = let m = c.args.mem.now in c.cancel_at.ensures ∙ ap (λ i. ruling_in_rows (rows_of m) (cancel_ruling (order_of (rows_of m) i))) c.find_order-i.ensures ∙ ap (ruling_in_rows (rows_of m)) (sym (target_there m (named_by c.args.target) cancel_ruling (subst (λ (i : ℕ). i < head_in (rows_of m) places_at) c.find_order-i.ensures c.if-i-mem.false)))

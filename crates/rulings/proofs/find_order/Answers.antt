@@ -10,23 +10,23 @@ use Rattle.store.specs.Finding.{named_by}
 use Rattle.rulings.specs.Looking.{found_here, order_here, order_closed, order_free, order_full}
 use Rattle.rulings.proofs.find_order.Goals as goal
 
-pub find_place-requires : goal.find_place-requires
-find_place-requires c = let s = c in record { counted = valid_counted _ s.requires.valid; indexed = s.requires.indexed }
+pub find_place-requires-clause-counted : goal.find_place-requires-clause-counted
+find_place-requires-clause-counted c = valid_counted _ c.requires.valid
 
 pub request_at-requires : goal.request_at-requires
-request_at-requires c = let s = c in record { counted = valid_counted _ s.requires.valid; i_bound = omega (arith, valid_counted _ s.requires.valid, (found_here (rows_of s.args.mem.now) (room_of s.args.mem.now) (named_by s.args.key) _ (sym c.i-1.given.1 ∙ c.find_place.ensures)).0) }
+request_at-requires c = record { counted = valid_counted _ c.requires.valid; i_bound = omega (arith, valid_counted _ c.requires.valid, (found_here (rows_of c.args.mem.now) (room_of c.args.mem.now) (named_by c.args.key) _ c.in-At.ensures).0) }
 
 pub opens-requires : goal.opens-requires
-opens-requires c = let s = c in let m = s.args.mem.now in let v = valid_counted _ s.requires.valid in let h = (found_here (rows_of m) (room_of m) (named_by s.args.key) _ (sym c.i-1.given.1 ∙ c.find_place.ensures)).0 in rw c.request_at.ensures (record { room = omega (arith, v, h) })
+opens-requires c = let m = c.args.mem.now in let v = valid_counted _ c.requires.valid in let h = (found_here (rows_of m) (room_of m) (named_by c.args.key) _ c.in-At.ensures).0 in rw c.request_at.ensures (record { room = omega (arith, v, h) })
 
 pub returns-then-opens : goal.returns-then-opens
-returns-then-opens c = let s = c in let m = s.args.mem.now in order_here (rows_of m) (room_of m) (named_by s.args.key) _ (sym c.i-1.given.1 ∙ c.find_place.ensures) (sym (is_order_is m _) ∙ ap (is_order m) (sym c.request_at.ensures) ∙ sym c.opens.ensures ∙ c.if-opens.true)
+returns-then-opens c = let m = c.args.mem.now in order_here (rows_of m) (room_of m) (named_by c.args.key) _ c.in-At.ensures (sym (is_order_is m _) ∙ ap (is_order m) (sym c.request_at.ensures) ∙ sym c.opens.ensures ∙ c.if-opens.true)
 
 pub returns-else-opens : goal.returns-else-opens
-returns-else-opens c = let s = c in let m = s.args.mem.now in order_closed (rows_of m) (room_of m) (named_by s.args.key) s.requires.indexed.keys_apart _ (sym c.i-1.given.1 ∙ c.find_place.ensures) (sym (is_order_is m _) ∙ ap (is_order m) (sym c.request_at.ensures) ∙ sym c.opens.ensures ∙ c.if-opens.false)
+returns-else-opens c = let m = c.args.mem.now in order_closed (rows_of m) (room_of m) (named_by c.args.key) c.requires.indexed.keys_apart _ c.in-At.ensures (sym (is_order_is m _) ∙ ap (is_order m) (sym c.request_at.ensures) ∙ sym c.opens.ensures ∙ c.if-opens.false)
 
 pub returns-in-Free : goal.returns-in-Free
-returns-in-Free c = let s = c in order_free (rows_of s.args.mem.now) (room_of s.args.mem.now) (named_by s.args.key) _ (sym c.enum_told-1.given.1 ∙ c.find_place.ensures)
+returns-in-Free c = order_free (rows_of c.args.mem.now) (room_of c.args.mem.now) (named_by c.args.key) _ c.in-Free.ensures
 
 pub returns-in-Full : goal.returns-in-Full
-returns-in-Full c = let s = c in order_full (rows_of s.args.mem.now) (room_of s.args.mem.now) (named_by s.args.key) (sym c.enum_told-in-Full-1.given.1 ∙ c.find_place.ensures)
+returns-in-Full c = order_full (rows_of c.args.mem.now) (room_of c.args.mem.now) (named_by c.args.key) c.in-Full.ensures

@@ -13,19 +13,19 @@ use Rattle.store.specs.Finding.{named_by}
 use Rattle.rulings.proofs.new_ruling.Goals as goal
 
 pub tally_at-requires : goal.tally_at-requires
-tally_at-requires c = let s = c in let n = valid_counted s.args.mem.now s.requires.desk.valid in record { counted = n; group_bound = omega (arith, n, s.requires.desk.listed) }
+tally_at-requires c = let n = valid_counted c.args.mem.now c.requires.desk.valid in record { counted = n; group_bound = omega (arith, n, c.requires.desk.listed) }
 
 pub exchange-t-requires : goal.exchange-t-requires
-exchange-t-requires c = let s = c in subst (λ (t : Tally). Exchangeable (is_buy (side_of s.args.side)) 0 c.value_of.result t) (sym c.tally_at.ensures) (new_exchangeable s.args.mem.now s.requires.desk.valid s.args.group s.requires.desk.listed _ _ (rw c.value_of.ensures (value_small s.args.size 0 s.args.price s.requires.small.small s.requires.small.cheap)))
+exchange-t-requires c = subst (λ (t : Tally). Exchangeable (is_buy (side_of c.args.side)) 0 c.value_of.result t) (sym c.tally_at.ensures) (new_exchangeable c.args.mem.now c.requires.desk.valid c.args.group c.requires.desk.listed _ _ (rw c.value_of.ensures (value_small c.args.size 0 c.args.price c.requires.small.small c.requires.small.cheap)))
 
 pub find_symbol-symbol-requires : goal.find_symbol-symbol-requires
 find_symbol-symbol-requires c = valid_counted c.args.mem.now c.requires.desk.valid
 
 pub new_number-refusal-requires : goal.new_number-refusal-requires
-new_number-refusal-requires c = let s = c in let h = s.requires.desk in checkable s.args.mem.now h.valid s.args.group _ _ _ h.listed (subst (λ (t : Tally). (metrics t).gross_both ≤ 5_000_000_000_000_000_000) (sym c.exchange-t.ensures) (exchanged_small _ _ _ _ (rw c.value_of.ensures (value_small s.args.size 0 s.args.price s.requires.small.small s.requires.small.cheap)) (subst (λ (t : Tally). (metrics t).gross_both ≤ ceiling) (sym c.tally_at.ensures) (stored_within s.args.mem.now h.valid s.args.group h.listed)))) s.requires.small.cheap
+new_number-refusal-requires c = let h = c.requires.desk in checkable c.args.mem.now h.valid c.args.group _ _ _ h.listed (subst (λ (t : Tally). (metrics t).gross_both ≤ 5_000_000_000_000_000_000) (sym c.exchange-t.ensures) (exchanged_small _ _ _ _ (rw c.value_of.ensures (value_small c.args.size 0 c.args.price c.requires.small.small c.requires.small.cheap)) (subst (λ (t : Tally). (metrics t).gross_both ≤ ceiling) (sym c.tally_at.ensures) (stored_within c.args.mem.now h.valid c.args.group h.listed)))) c.requires.small.cheap
 
 pub returns-then-refusal-ne0 : goal.returns-then-refusal-ne0
-returns-then-refusal-ne0 c = let s = c in c.hold.ensures ∙ new_held s.args.mem.now (named_by s.args.key) s.args.group s.requires.desk _ _ _ s.args.sym s.args.side s.args.size s.args.price c.new_number-refusal.ensures c.find_symbol-symbol.ensures (c.exchange-t.ensures ∙ (λ j. exchanged (is_buy (side_of s.args.side)) 0 (c.value_of.ensures j) (c.tally_at.ensures j))) c.if-refusal-ne0.true
+returns-then-refusal-ne0 c = c.hold.ensures ∙ new_held c.args.mem.now (named_by c.args.key) c.args.group c.requires.desk _ _ _ c.args.sym c.args.side c.args.size c.args.price c.new_number-refusal.ensures c.find_symbol-symbol.ensures (c.exchange-t.ensures ∙ (λ j. exchanged (is_buy (side_of c.args.side)) 0 (c.value_of.ensures j) (c.tally_at.ensures j))) c.if-refusal-ne0.true
 
 pub returns : goal.returns
-returns c = let s = c in new_granted s.args.mem.now (named_by s.args.key) s.args.group s.requires.desk _ _ _ s.args.sym s.args.side s.args.size s.args.price c.new_number-refusal.ensures c.find_symbol-symbol.ensures (c.exchange-t.ensures ∙ (λ j. exchanged (is_buy (side_of s.args.side)) 0 (c.value_of.ensures j) (c.tally_at.ensures j))) c.if-refusal-ne0.false
+returns c = new_granted c.args.mem.now (named_by c.args.key) c.args.group c.requires.desk _ _ _ c.args.sym c.args.side c.args.size c.args.price c.new_number-refusal.ensures c.find_symbol-symbol.ensures (c.exchange-t.ensures ∙ (λ j. exchanged (is_buy (side_of c.args.side)) 0 (c.value_of.ensures j) (c.tally_at.ensures j))) (omega arith)

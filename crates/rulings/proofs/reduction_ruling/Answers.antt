@@ -7,17 +7,14 @@ use Rattle.rulings.specs.Granting.{hold_in_rows, spot_ruling, SpotHeld, spotted,
 use Rattle.rulings.specs.Rulings.{ruling_in_rows}
 use Rattle.rulings.proofs.reduction_ruling.Goals as goal
 
-pub find_target-requires : goal.find_target-requires
-find_target-requires c =record { valid = c.requires.valid; indexed = c.requires.indexed }
-
-pub reduction_at-requires : goal.reduction_at-requires
-reduction_at-requires c = let s = c in record { held = subst (SpotHeld s.args.mem.now (named_by s.args.target)) (sym c.find_target.ensures ∙ c.group-1.given.1) (spot_held s.args.mem.now (named_by s.args.target) s.requires.valid); size_bound = s.requires.size_bound }
+pub reduction_at-requires-clause-held : goal.reduction_at-requires-clause-held
+reduction_at-requires-clause-held c = subst (SpotHeld c.args.mem.now (named_by c.args.target)) (sym c.in-Stands.ensures) (spot_held c.args.mem.now (named_by c.args.target) c.requires.valid)
 
 pub returns-in-NoDesk : goal.returns-in-NoDesk
-returns-in-NoDesk c = let s = c in let m = s.args.mem.now in c.hold.ensures ∙ hold_in_rows (rows_of m) 5 ∙ (ap (ruling_in_rows (rows_of m)) (sym (spotted m (named_by s.args.target) (reduction_ruling (view m).ledger.orders s.args.size) ∙ ap (spot_ruling m (named_by s.args.target) (reduction_ruling (view m).ledger.orders s.args.size)) (sym c.find_target.ensures ∙ c.enum_told-1.given.1))))
+returns-in-NoDesk c = let m = c.args.mem.now in c.hold.ensures ∙ hold_in_rows (rows_of m) 5 ∙ (ap (ruling_in_rows (rows_of m)) (sym (spotted m (named_by c.args.target) (reduction_ruling (view m).ledger.orders c.args.size) ∙ ap (spot_ruling m (named_by c.args.target) (reduction_ruling (view m).ledger.orders c.args.size)) (sym c.in-NoDesk.ensures))))
 
 pub returns-in-NoOrder : goal.returns-in-NoOrder
-returns-in-NoOrder c = let s = c in let m = s.args.mem.now in c.hold-in-NoOrder.ensures ∙ hold_in_rows (rows_of m) 9 ∙ (ap (ruling_in_rows (rows_of m)) (sym (spotted m (named_by s.args.target) (reduction_ruling (view m).ledger.orders s.args.size) ∙ ap (spot_ruling m (named_by s.args.target) (reduction_ruling (view m).ledger.orders s.args.size)) (sym c.find_target.ensures ∙ c.enum_told-in-NoOrder-1.given.1))))
+returns-in-NoOrder c = let m = c.args.mem.now in c.hold-in-NoOrder.ensures ∙ hold_in_rows (rows_of m) 9 ∙ (ap (ruling_in_rows (rows_of m)) (sym (spotted m (named_by c.args.target) (reduction_ruling (view m).ledger.orders c.args.size) ∙ ap (spot_ruling m (named_by c.args.target) (reduction_ruling (view m).ledger.orders c.args.size)) (sym c.in-NoOrder.ensures))))
 
 pub returns-in-Stands : goal.returns-in-Stands
-returns-in-Stands c = let s = c in let m = s.args.mem.now in c.reduction_at.ensures ∙ (ap (ruling_in_rows (rows_of m)) (sym (spotted m (named_by s.args.target) (reduction_ruling (view m).ledger.orders s.args.size) ∙ ap (spot_ruling m (named_by s.args.target) (reduction_ruling (view m).ledger.orders s.args.size)) (sym c.find_target.ensures ∙ c.group-1.given.1))))
+returns-in-Stands c = let m = c.args.mem.now in c.reduction_at.ensures ∙ (ap (ruling_in_rows (rows_of m)) (sym (spotted m (named_by c.args.target) (reduction_ruling (view m).ledger.orders c.args.size) ∙ ap (spot_ruling m (named_by c.args.target) (reduction_ruling (view m).ledger.orders c.args.size)) (sym c.in-Stands.ensures))))

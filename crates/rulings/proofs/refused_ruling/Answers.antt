@@ -7,17 +7,14 @@ use Rattle.rulings.specs.Granting.{hold_in_rows, spot_ruling, SpotHeld, spotted,
 use Rattle.rulings.specs.Rulings.{ruling_in_rows}
 use Rattle.rulings.proofs.refused_ruling.Goals as goal
 
-pub find_target-requires : goal.find_target-requires
-find_target-requires c = c.requires
-
 pub refused_at-requires : goal.refused_at-requires
-refused_at-requires c = let s = c in subst (SpotHeld s.args.mem.now (named_by s.args.target)) (sym c.find_target.ensures ∙ c.group-1.given.1) (spot_held s.args.mem.now (named_by s.args.target) s.requires.valid)
+refused_at-requires c = subst (SpotHeld c.args.mem.now (named_by c.args.target)) (sym c.in-Stands.ensures) (spot_held c.args.mem.now (named_by c.args.target) c.requires.valid)
 
 pub returns-in-NoDesk : goal.returns-in-NoDesk
-returns-in-NoDesk c = let s = c in let m = s.args.mem.now in c.hold.ensures ∙ hold_in_rows (rows_of m) 5 ∙ (ap (ruling_in_rows (rows_of m)) (sym (spotted m (named_by s.args.target) refused_ruling ∙ ap (spot_ruling m (named_by s.args.target) refused_ruling) (sym c.find_target.ensures ∙ c.enum_told-1.given.1))))
+returns-in-NoDesk c = let m = c.args.mem.now in c.hold.ensures ∙ hold_in_rows (rows_of m) 5 ∙ (ap (ruling_in_rows (rows_of m)) (sym (spotted m (named_by c.args.target) refused_ruling ∙ ap (spot_ruling m (named_by c.args.target) refused_ruling) (sym c.in-NoDesk.ensures))))
 
 pub returns-in-NoOrder : goal.returns-in-NoOrder
-returns-in-NoOrder c = let s = c in let m = s.args.mem.now in c.hold-in-NoOrder.ensures ∙ hold_in_rows (rows_of m) 9 ∙ (ap (ruling_in_rows (rows_of m)) (sym (spotted m (named_by s.args.target) refused_ruling ∙ ap (spot_ruling m (named_by s.args.target) refused_ruling) (sym c.find_target.ensures ∙ c.enum_told-in-NoOrder-1.given.1))))
+returns-in-NoOrder c = let m = c.args.mem.now in c.hold-in-NoOrder.ensures ∙ hold_in_rows (rows_of m) 9 ∙ (ap (ruling_in_rows (rows_of m)) (sym (spotted m (named_by c.args.target) refused_ruling ∙ ap (spot_ruling m (named_by c.args.target) refused_ruling) (sym c.in-NoOrder.ensures))))
 
 pub returns-in-Stands : goal.returns-in-Stands
-returns-in-Stands c = let s = c in let m = s.args.mem.now in c.refused_at.ensures ∙ (ap (ruling_in_rows (rows_of m)) (sym (spotted m (named_by s.args.target) refused_ruling ∙ ap (spot_ruling m (named_by s.args.target) refused_ruling) (sym c.find_target.ensures ∙ c.group-1.given.1))))
+returns-in-Stands c = let m = c.args.mem.now in c.refused_at.ensures ∙ (ap (ruling_in_rows (rows_of m)) (sym (spotted m (named_by c.args.target) refused_ruling ∙ ap (spot_ruling m (named_by c.args.target) refused_ruling) (sym c.in-Stands.ensures))))

@@ -4,9 +4,6 @@ use Rattle.state.specs.Places.{hint_right, row_within}
 use Rattle.chains.specs.Words.{row_room}
 use Rattle.state.proofs.find_hinted.Goals as goal
 
-pub overflow_mul-i : goal.overflow_mul-i
-overflow_mul-i c = record { fits = omega (arith, row_room c.requires.has_rows c.wide-i.result c.if-i-n.true) }
-
 pub overflow_add-at : goal.overflow_add-at
 overflow_add-at c = record { fits = omega (arith, row_room c.requires.has_rows c.wide-i.result c.if-i-n.true) }
 

@@ -1,7 +1,6 @@
 -- `state::hint_rows` meets its contract, which says nothing: it ends, and keeps to the hints.
 use borrow.Author.Rules.{rules}
 use mathlib.Core.Path.{refl}
-use Prim.Native.Nat.{◌-◌}
 use native.Mathlib.Omega.{arith}
 use Rattle.chains.specs.Words.{row_room}
 use Rattle.state.proofs.hint_rows.Goals as goal

@@ -1,5 +1,4 @@
 -- `state::listed_ok` meets its contract: the rules are tried in their order, and the first that fails says no.
-use Prim.Native.Nat.{◌-◌}
 use Rattle.laws.specs.Checks.{rules_tried}
 use Rattle.state.specs.Whole.{listed_ok}
 use Rattle.state.proofs.listed_ok.Goals as goal
