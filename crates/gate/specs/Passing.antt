@@ -15,7 +15,7 @@ use Rattle.calls.specs.Calling.{recorded}
 use Rattle.calls.specs.Blocks.{Block, one_by_one, blocked, took, block_left}
 use Rattle.calls.specs.Taking.{tail, tail_is, Ran, ran, block_clear, block_judged, no_line}
 use Rattle.calls.specs.declared.Taken.{Taken}
-use Rattle.promises.specs.Day.{Call, lines, Ample, after, left}
+use Rattle.promises.specs.Day.{Call, Ample, after, left}
 use Rattle.promises.proofs.Carrying.{booked, all_booked, left_is}
 use Rattle.promises.proofs.Blocks.{Lent, block_of, makes_block, block_booked}
 use Rattle.gate.specs.Turns.{call_for, calls_for}

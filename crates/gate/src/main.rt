@@ -5,8 +5,9 @@
 //
 // Where reading fails, the whole lines before have had their answers, the part of a line after them is not judged, no closing line is written,
 // and standard error says why: such a day cannot be taken for a whole one. Where writing fails the program ends at once, and standard error
-// says why unless the output was closed. By default the system itself ends a program that writes to a pipe that nobody reads.
+// says why unless the output was closed, as a pipe is that nobody reads.
 #![tactic(auto)]
+
 ghost use Rattle.std.specs.Prelude.{◌≡◌, map, ◌≤◌, length};
 ghost use Rattle.lines.specs.Splitting.{last};
 ghost use Rattle.calls.specs.Calling.{recorded};
@@ -15,7 +16,7 @@ ghost use Rattle.gate.specs.Turns.{call_for, LinesPassed, HeldFew};
 
 use calls::{Answered, Closed, Taken};
 use fields::Place;
-use libc::{STDERR_FILENO, STDIN_FILENO, STDOUT_FILENO};
+use std::io;
 use store::Made;
 
 const PLACES: usize = 400;
@@ -68,14 +69,19 @@ enum Closing {
     NoMore,
 }
 
+// Says what failed, and why.
+fn say_failed(rt: &impl Eprint, what: &str, why: io::Error) {
+    let _ = eprintln!(rt; "{what}: {why}");
+}
+
 // Writes the answers that wait, and answers whether all were written. Standard error says why not, unless the output was closed.
-fn is_written(answers: &[u8], count: usize) -> bool {
+fn is_written(rt: &(impl Print + Eprint), answers: &[u8], count: usize) -> bool {
     let waiting = fields::part(answers, Place { from: 0, to: count });
-    if io::write_all(STDOUT_FILENO, waiting) {
+    let Err(why) = rt.write_all(waiting) else {
         return true;
-    }
-    if os::errno() != libc::EPIPE {
-        os::fail(b"standard output");
+    };
+    if why.kind() != io::ErrorKind::BrokenPipe {
+        say_failed(rt, "standard output", why);
     }
     false
 }
@@ -92,24 +98,29 @@ fn put_bytes(to: &mut [u8], at: usize, bytes: &[u8]) -> usize {
 }
 
 // Puts a line of at most 96 bytes after the answers that wait. Where there may be no room for it, they are written first.
-fn put_line(answers: &mut [u8], count: usize, line: &[u8]) -> Answers {
+fn put_line(rt: &(impl Print + Eprint), answers: &mut [u8], count: usize, line: &[u8]) -> Answers {
     if count <= BLOCK - CLOSING {
         return Answers::Waiting(put_bytes(answers, count, line));
     }
-    if is_written(answers, count) {
+    if is_written(rt, answers, count) {
         return Answers::Waiting(put_bytes(answers, 0, line));
     }
     Answers::NoMore
 }
 
 // Says that a call refuses the program's own memory or buffer.
-fn say_refused() {
-    io::write_all(STDERR_FILENO, b"gate: its own state is refused\n");
+fn say_refused(rt: &impl Eprint) {
+    let _ = rt.eprintln("gate: its own state is refused");
 }
 
 // Judges the lines that end in a text, and writes their answers. Answers where the last of them ends. Where the answers may not have room for
 // one more, those that there are are written, and it goes on after the lines taken.
-fn judge_lines(mem: &mut [u64], text: &[u8], answers: &mut [u8]) -> Judged
+fn judge_lines(
+    rt: &(impl Print + Eprint),
+    mem: &mut [u64],
+    text: &[u8],
+    answers: &mut [u8],
+) -> Judged
     ensures { LinesPassed text.now mem.old result mem.new }
 {
     let mut at = 0;
@@ -120,10 +131,10 @@ fn judge_lines(mem: &mut [u64], text: &[u8], answers: &mut [u8]) -> Judged
             written,
         } = calls::block(mem, &text[at..], answers)
         else {
-            say_refused();
+            say_refused(rt);
             return Judged::Stopped;
         };
-        if !is_written(answers, written) {
+        if !is_written(rt, answers, written) {
             return Judged::Stopped;
         }
         at += bytes;
@@ -135,38 +146,49 @@ fn judge_lines(mem: &mut [u64], text: &[u8], answers: &mut [u8]) -> Judged
 }
 
 // Reads once, after the bytes that are held, and answers where the text then ends. Standard error says why a read failed.
-fn read_after(text: &mut [u8], held: usize) -> Read
+fn read_after(rt: &impl Eprint, input: &mut impl io::Read, text: &mut [u8], held: usize) -> Read
     requires { held ≤ length text.old }
 {
-    let got = libc::read(STDIN_FILENO, &mut text[held..]);
-    if got < 0 {
-        os::fail(b"standard input");
-        return Read::Failed;
+    match io::Read::read(input, &mut text[held..]) {
+        Ok(0) => Read::Nothing,
+        Ok(count) => Read::UpTo(held + count),
+        Err(why) => {
+            say_failed(rt, "standard input", why);
+            Read::Failed
+        }
     }
-    if got == 0 {
-        return Read::Nothing;
-    }
-    Read::UpTo(held + io::count(got, &text[held..]))
 }
 
 // Reads a block after the bytes that are held, and judges the lines that end in it. What follows them is held, 161 bytes of it at most.
-fn judge_block(mem: &mut [u64], text: &mut [u8], held: usize, answers: &mut [u8]) -> Turn
+fn judge_block(
+    rt: &(impl Print + Eprint),
+    input: &mut impl io::Read,
+    mem: &mut [u64],
+    text: &mut [u8],
+    held: usize,
+    answers: &mut [u8],
+) -> Turn
     requires { held ≤ length text.old }
     ensures { HeldFew result }
 {
-    let to = match read_after(text, held) {
+    let to = match read_after(rt, input, text, held) {
         Read::UpTo(end) => end,
         Read::Nothing => return Turn::Ended,
         Read::Failed => return Turn::Broken,
     };
-    match judge_lines(mem, fields::part(text, Place { from: 0, to }), answers) {
+    match judge_lines(rt, mem, fields::part(text, Place { from: 0, to }), answers) {
         Judged::UpTo(at) => Turn::Held(lines::keep_rest(text, at, to)),
         Judged::Stopped => Turn::Broken,
     }
 }
 
 // Judges a last part that the input ends without LF. Where it is empty there is none.
-fn judge_last(mem: &mut [u64], part: &[u8], answers: &mut [u8]) -> Answers
+fn judge_last(
+    rt: &(impl Print + Eprint),
+    mem: &mut [u64],
+    part: &[u8],
+    answers: &mut [u8],
+) -> Answers
     ensures { mem.new ≡ left recorded mem.old (map call_for (last part.now)) }
 {
     if part.len() == 0 {
@@ -174,36 +196,47 @@ fn judge_last(mem: &mut [u64], part: &[u8], answers: &mut [u8]) -> Answers
     }
     let mut answer = [0u8; ANSWER];
     let Answered::Line(to) = calls::record(mem, part, &mut answer) else {
-        say_refused();
+        say_refused(rt);
         return Answers::NoMore;
     };
-    put_line(answers, 0, fields::part(&answer, Place { from: 0, to }))
+    put_line(rt, answers, 0, fields::part(&answer, Place { from: 0, to }))
 }
 
 // Puts the closing line of the group at a place in listing order.
-fn put_closing(mem: &[u64], place: usize, answers: &mut [u8], count: usize) -> Closing {
+fn put_closing(
+    rt: &(impl Print + Eprint),
+    mem: &[u64],
+    place: usize,
+    answers: &mut [u8],
+    count: usize,
+) -> Closing {
     let mut line = [0u8; CLOSING];
     match calls::closing(mem, place, &mut line) {
         Closed::Line(to) => {
             let line = fields::part(&line, Place { from: 0, to });
-            match put_line(answers, count, line) {
+            match put_line(rt, answers, count, line) {
                 Answers::Waiting(waiting) => Closing::Waiting(waiting),
                 Answers::NoMore => Closing::NoMore,
             }
         }
         Closed::Unlisted => Closing::NoGroup,
         Closed::ShortBuffer | Closed::BadState => {
-            say_refused();
+            say_refused(rt);
             Closing::NoMore
         }
     }
 }
 
 // Puts the closing line of every group in listing order.
-fn put_closings(mem: &[u64], answers: &mut [u8], count: usize) -> Answers {
+fn put_closings(
+    rt: &(impl Print + Eprint),
+    mem: &[u64],
+    answers: &mut [u8],
+    count: usize,
+) -> Answers {
     let mut waiting = count;
     for place in 0..books::MOST_GROUPS {
-        match put_closing(mem, place, answers, waiting) {
+        match put_closing(rt, mem, place, answers, waiting) {
             Closing::Waiting(more) => waiting = more,
             Closing::NoGroup => return Answers::Waiting(waiting),
             Closing::NoMore => return Answers::NoMore,
@@ -213,28 +246,34 @@ fn put_closings(mem: &[u64], answers: &mut [u8], count: usize) -> Answers {
 }
 
 // Judges the last part, and writes its answer and the closing lines.
-fn close_day(mem: &mut [u64], last: &[u8], answers: &mut [u8]) {
-    let Answers::Waiting(count) = judge_last(mem, last, answers) else {
+fn close_day(rt: &(impl Print + Eprint), mem: &mut [u64], last: &[u8], answers: &mut [u8]) {
+    let Answers::Waiting(count) = judge_last(rt, mem, last, answers) else {
         return;
     };
-    let Answers::Waiting(waiting) = put_closings(mem, answers, count) else {
+    let Answers::Waiting(waiting) = put_closings(rt, mem, answers, count) else {
         return;
     };
-    is_written(answers, waiting);
+    is_written(rt, answers, waiting);
 }
 
 // Judges block after block to the end of the input, and closes the day. A proved loop has to end, and nothing says that an input does: so the
-// turns are counted down from a number that no run uses up.
-fn judge_day(mem: &mut [u64], text: &mut [u8], answers: &mut [u8])
+// turns are counted, up to a number that no run uses up.
+fn judge_day(
+    rt: &(impl Print + Eprint),
+    input: &mut impl io::Read,
+    mem: &mut [u64],
+    text: &mut [u8],
+    answers: &mut [u8],
+)
     requires { 161 ≤ length text.old }
 {
     let mut held = 0;
-    let mut turns = u64::MAX;
-    while turns > 0 {
-        match judge_block(mem, text, held, answers) {
+    for _ in 0..u64::MAX {
+        match judge_block(rt, input, mem, text, held, answers) {
             Turn::Held(count) => held = count,
             Turn::Ended => {
                 close_day(
+                    rt,
                     mem,
                     fields::part(text, Place { from: 0, to: held }),
                     answers,
@@ -243,17 +282,16 @@ fn judge_day(mem: &mut [u64], text: &mut [u8], answers: &mut [u8])
             }
             Turn::Broken => return,
         }
-        turns -= 1;
     }
 }
 
-fn main() {
+fn main(rt: HostRuntime) {
     let mut mem = [0u64; WORDS];
     let Made::Done = store::make_fresh(&mut mem) else {
-        say_refused();
+        say_refused(&rt);
         return;
     };
     let mut text = [0u8; BLOCK];
     let mut answers = [0u8; BLOCK];
-    judge_day(&mut mem, &mut text, &mut answers);
+    judge_day(&rt, &mut rt.stdin(), &mut mem, &mut text, &mut answers);
 }

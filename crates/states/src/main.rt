@@ -12,10 +12,12 @@
 // answer is 1 where they are a state, and 0 where they break a rule (22). A memory has 4,096 words
 // and the file at most 262,144 bytes. For each case that is answered otherwise a line has its label.
 #![tactic(auto)]
+
 ghost use Rattle.std.specs.Prelude.{◌≡◌, ◌≤◌, max, length};
 
 use fields::Place;
-use libc::STDOUT_FILENO;
+use std::rt::Files;
+use std::{fs, io};
 use store::Made;
 
 const WORDS: usize = 4096;
@@ -40,12 +42,27 @@ struct Tally {
     differ: u64,
 }
 
-fn say(text: &[u8]) {
-    io::write_all(STDOUT_FILENO, text);
+fn say(rt: &impl Print, text: &[u8]) {
+    let _ = rt.write_all(text);
 }
 
-fn say_number(n: u64) {
-    io::print_decimal(STDOUT_FILENO, n);
+fn say_number(rt: &impl Print, n: u64) {
+    let _ = rt.print(n);
+}
+
+// Reads until the buffer is full, the input ends or a read fails, and answers how many bytes the
+// buffer then has.
+fn read_full(input: &mut impl io::Read, to: &mut [u8]) -> usize
+    ensures { result ≤ length to.new }
+{
+    let mut count = 0;
+    while count < to.len() {
+        match input.read(&mut to[count..]) {
+            Ok(0) | Err(_) => break,
+            Ok(more) => count += more,
+        }
+    }
+    count
 }
 
 fn one_more(count: u64) -> u64 {
@@ -159,15 +176,15 @@ fn tallied(tally: Tally, said: u64) -> Tally {
 }
 
 // The tally with one more that differs, whose label is said.
-fn differing(tally: Tally, label: &[u8]) -> Tally {
-    say(label);
-    say(b"\n");
+fn differing(rt: &impl Print, tally: Tally, label: &[u8]) -> Tally {
+    say(rt, label);
+    say(rt, b"\n");
     let mut t = tally;
     t.differ = one_more(t.differ);
     t
 }
 
-fn test_case(base: &[u64; WORDS], line: &[u8], tally: Tally) -> Tally {
+fn test_case(rt: &impl Print, base: &[u64; WORDS], line: &[u8], tally: Tally) -> Tally {
     let expected = number_at(line, 0);
     let length = number_at(line, expected.end + 1);
     let from = length.end + 1;
@@ -179,22 +196,22 @@ fn test_case(base: &[u64; WORDS], line: &[u8], tally: Tally) -> Tally {
     if said == expected.value {
         return t;
     }
-    differing(t, fields::part(line, Place { from, to }))
+    differing(rt, t, fields::part(line, Place { from, to }))
 }
 
 // A line of the file.
-fn test_line(base: &mut [u64; WORDS], line: &[u8], tally: Tally) -> Tally {
+fn test_line(rt: &impl Print, base: &mut [u64; WORDS], line: &[u8], tally: Tally) -> Tally {
     match fields::byte_at(line, 0) {
         b'#' => tally,
         b'b' => {
             set_base(base, line);
             tally
         }
-        _ => test_case(base, line, tally),
+        _ => test_case(rt, base, line, tally),
     }
 }
 
-fn test_lines(text: &[u8]) -> Tally {
+fn test_lines(rt: &impl Print, text: &[u8]) -> Tally {
     let mut base = [0u64; WORDS];
     let mut tally = Tally {
         good: 0,
@@ -204,7 +221,7 @@ fn test_lines(text: &[u8]) -> Tally {
     let mut start = 0;
     for end in 0..text.len() {
         if text[end] == b'\n' {
-            tally = test_line(&mut base, &text[start..end], tally);
+            tally = test_line(rt, &mut base, &text[start..end], tally);
             start = end + 1;
         }
     }
@@ -217,23 +234,24 @@ fn text_buffer() -> [u8; TEXT_BYTES]
     [0; TEXT_BYTES]
 }
 
-fn test_states() {
-    let file = os::open_read(b"states.txt");
-    if file < 0 {
-        os::fail(b"states.txt");
-        return;
-    }
+fn test_states(rt: &(impl Files + Print + Eprint)) {
+    let mut file = match fs::open(rt, "states.txt") {
+        Ok(file) => file,
+        Err(why) => {
+            let _ = eprintln!(rt; "states.txt: {why}");
+            return;
+        }
+    };
     let mut text = text_buffer();
-    let count = io::read_full(file, &mut text);
-    libc::close(file);
-    let tally = test_lines(&text[..count]);
-    say(b"states: ");
-    say_number(tally.good);
-    say(b" good, ");
-    say_number(tally.refused);
-    say(b" refused, ");
-    say_number(tally.differ);
-    say(b" differ\n");
+    let count = read_full(&mut file, &mut text);
+    let tally = test_lines(rt, &text[..count]);
+    say(rt, b"states: ");
+    say_number(rt, tally.good);
+    say(rt, b" good, ");
+    say_number(rt, tally.refused);
+    say(rt, b" refused, ");
+    say_number(rt, tally.differ);
+    say(rt, b" differ\n");
 }
 
 // Whether every word from a place up to another is the one named.
@@ -283,27 +301,27 @@ fn is_fresh_as_said(words: usize, long_enough: bool) -> bool {
     answer(&mem, words as u64) == 1
 }
 
-fn test_fresh(words: usize, long_enough: bool) {
-    say(b"fresh: ");
-    say_number(words as u64);
+fn test_fresh(rt: &impl Print, words: usize, long_enough: bool) {
+    say(rt, b"fresh: ");
+    say_number(rt, words as u64);
     if is_fresh_as_said(words, long_enough) {
-        say(b" words as said\n");
+        say(rt, b" words as said\n");
     } else {
-        say(b" words otherwise\n");
+        say(rt, b" words otherwise\n");
     }
 }
 
 // Making a fresh state, in memories that are too short for groups and symbols (23) and in ones that
 // are not.
-fn test_fresh_states() {
-    test_fresh(0, false);
-    test_fresh(1668, false);
-    test_fresh(1669, true);
-    test_fresh(1686, true);
-    test_fresh(3000, true);
+fn test_fresh_states(rt: &impl Print) {
+    test_fresh(rt, 0, false);
+    test_fresh(rt, 1668, false);
+    test_fresh(rt, 1669, true);
+    test_fresh(rt, 1686, true);
+    test_fresh(rt, 3000, true);
 }
 
-fn main() {
-    test_states();
-    test_fresh_states();
+fn main(rt: HostRuntime) {
+    test_states(&rt);
+    test_fresh_states(&rt);
 }
