@@ -1,5 +1,5 @@
 -- Packing an identifier or an MPID into words loses nothing: two texts in one form that pack alike are the same bytes.
-use Rattle.std.specs.Prelude.{◌≡◌, refl, List, [], ◌∷◌, ◌++◌, ℕ, zero, suc, ◌+◌, ◌≤◌, take, drop}
+use Rattle.std.specs.Prelude.{◌≡◌, refl, List, [], ◌∷◌, ◌++◌, ℕ, zero, suc, ◌≤◌, take, drop}
 use Rattle.std.proofs.Common.{sym, ap, ◌∙◌, arith, take-append-drop, drop-drop}
 use Rattle.laws.specs.Tables.{All}
 use Rattle.rulebook.specs.Names.{word, Ident, ident_of}

@@ -1,5 +1,5 @@
 -- What putting bytes leaves: the bytes at their place and all else as it was, or a place past the end.
-use Rattle.std.specs.Prelude.{◌≡◌, refl, cond, ◌&&◌, ℕ, suc, ◌+◌, ◌-◌, ◌<◌, ◌≤◌, leb, length, take, drop, set}
+use Rattle.std.specs.Prelude.{◌≡◌, refl, cond, ◌&&◌, ℕ, suc, ◌+◌, ◌<◌, ◌≤◌, leb, length, take, drop, set}
 use Rattle.std.proofs.Common.{sym, ap, ◌∙◌, ⊎_elim, arith, add-one, add-zero, zero-add, take-append-drop, length-set, length-append, take-suc-set, drop-set-lt, lt-ltb, le-ltb, le-leb}
 use mathlib.Core.List.{List, [], ◌∷◌, ◌++◌, foldl-append, append_assoc}
 use Rattle.std.proofs.Math.Seq.{take-append_seam}

@@ -1,5 +1,5 @@
 -- Document 01, "The day's lines": the fields after a kind, by the list of their forms. Read from a place on, and written each after a tab.
-use Rattle.std.specs.Prelude.{ℕ, ◌+◌, ◌-◌, cond, List, [], ◌∷◌, ◌++◌, get_or, eqb}
+use Rattle.std.specs.Prelude.{ℕ, cond, List, [], ◌∷◌, ◌++◌, get_or, eqb}
 use Prim.Native.Char.{code}
 use Rattle.rulebook.specs.Lines.{Side, buy, sell, short, exempt, Field, text, letter, number}
 use Rattle.fields.specs.Digits.{digits, number_of}

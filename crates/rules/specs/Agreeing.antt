@@ -1,5 +1,5 @@
 -- What the code tries of a row is what the rules ask of it.
-use Rattle.std.specs.Prelude.{◌≡◌, ◌&&◌, ◌||◌, ℕ, zero, suc, ◌+◌, ◌*◌, ◌≤◌, ◌<◌, get_or}
+use Rattle.std.specs.Prelude.{◌≡◌, ◌&&◌, ◌||◌, ℕ, zero, suc, ◌+◌, ◌≤◌, ◌<◌, get_or}
 use Rattle.std.proofs.Math.Path.{refl, subst}
 use Rattle.std.proofs.Common.{sym, ap, ◌∙◌, add-zero}
 use Rattle.std.proofs.Math.Bool.{Bool, true, false, cond}
@@ -13,10 +13,10 @@ use borrow.Author.Tests.{leb-true, le-leb, eqb-true, eqb-false, eq-eqb}
 use Rattle.laws.specs.Tests.{on, both, two}
 use Rattle.laws.specs.Tables.{◌also◌}
 use Rattle.laws.specs.Numbered.{every_each}
-use Rattle.laws.specs.Rows.{Row, region}
+use Rattle.laws.specs.Rows.{Row}
 use Rattle.laws.specs.Checks.{all_hold, rules_read, rules_met}
 use Rattle.rulebook.specs.Names.{bytes, Key}
-use Rattle.rulebook.specs.Lines.{ceiling, Side, buy, sell, short, exempt, side_letter, Deal, new, change, cancel, block, unblock, side, letter, identifier, size, price, Fits, Formed, from_to, number, yes_no, group, ask, tell, quote, mpid}
+use Rattle.rulebook.specs.Lines.{ceiling, Side, buy, sell, short, exempt, side_letter, Deal, new, change, cancel, block, unblock, side, letter, identifier, size, price, Fits, Formed, from_to, yes_no, group, ask, tell, quote, mpid}
 use Rattle.rulebook.proofs.Cases.{in_range}
 use Rattle.rulebook.proofs.Keeping.{name_fits}
 use Rattle.rulebook.specs.Kept.{metrics}
@@ -24,7 +24,7 @@ use Rattle.fields.specs.Series.{side_of}
 use Rattle.fields.specs.Values.{says_side}
 use Rattle.packing.specs.Fitting.{fits}
 use Rattle.packing.specs.Exactly.{fits_exactly, letter_exactly, formed_exactly, mpid_exactly, identifier_exactly}
-use Rattle.books.specs.Layout.{layout, room_of, request_start, order_start, width_of, limit_cells, mark_cells, total_cells, target_cells, not_of_change, not_of_cancel, not_of_block, groups, symbols, keys, requests, orders, opened_at, gross_trade_at, net_trade_at, gross_open_at, net_open_at, gross_both_at, net_both_at, max_size_at, short_sales_at, blocked_at, traded_buys_at, traded_sells_at, open_buys_at, open_sells_at, id_at, bid_at, offer_at, kind_at, number_at, target_at, target_middle_at, target_tail_at, symbol_at, side_at, size_at, price_at, order_price_at, order_size_at, done_at, cancel_asked_at}
+use Rattle.books.specs.Layout.{request_start, order_start, width_of, limit_cells, mark_cells, total_cells, target_cells, not_of_change, not_of_cancel, not_of_block, groups, symbols, keys, requests, orders, opened_at, gross_trade_at, net_trade_at, gross_open_at, net_open_at, gross_both_at, net_both_at, max_size_at, short_sales_at, blocked_at, traded_buys_at, traded_sells_at, open_buys_at, open_sells_at, id_at, bid_at, offer_at, kind_at, number_at, target_at, target_middle_at, target_tail_at, symbol_at, side_at, size_at, price_at, order_price_at, order_size_at, done_at, cancel_asked_at}
 use Rattle.books.specs.View.{flag, mpid_in, group_in, tally_in, key_in, target_in, deal_in, asked_in, opens, head_in, rows_of}
 use Rattle.books.specs.Writing.{request_words}
 use Rattle.books.specs.Rules.{words_in}

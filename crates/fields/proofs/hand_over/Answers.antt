@@ -1,8 +1,6 @@
 -- `fields::hand_over` meets its contract: the tests say which; the copy writes the first n bytes and no other.
 use mathlib.Core.Path.{◌≡◌}
 use Prim.Native.Nat.{◌-◌}
-use lib.ListN.{length, take, length-take}
-use lib.Seq.{take_all}
 use borrow.Author.Tests.{lt-leb, le-leb}
 use native.Mathlib.Omega.{arith}
 use Rattle.fields.specs.Out.{handed}

@@ -1,6 +1,6 @@
 -- `fields::number_of` meets its contract: the number of the rest, from the number so far, is that of the field.
 use borrow.Author.Rules.{rules}
-use Prim.Native.Nat.{◌<◌, ◌-◌}
+use Prim.Native.Nat.{◌<◌}
 use native.Mathlib.Numerals.{add-one}
 use native.Mathlib.Omega.{arith}
 use lib.ListN.{length, drop_of_length-le}

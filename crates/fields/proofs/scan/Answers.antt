@@ -1,6 +1,6 @@
 -- `fields::scan` meets its contract: from each place passed, the field ends where it ends from the first.
 use mathlib.Core.Path.{◌≡◌, sym, ◌∙◌}
-use Prim.Native.Nat.{suc, ◌<◌, ◌-◌, ◌+◌}
+use Prim.Native.Nat.{suc, ◌<◌, ◌+◌}
 use native.Mathlib.Numerals.{add-one}
 use native.Mathlib.Omega.{arith}
 use lib.ListN.{length, drop, drop_of_length-le}

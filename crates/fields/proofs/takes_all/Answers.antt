@@ -1,6 +1,6 @@
 -- `fields::takes_all` meets its contract: what is left is taken whole exactly if all is.
 use mathlib.Core.Path.{sym, ◌∙◌}
-use Prim.Native.Nat.{◌<◌, ◌-◌}
+use Prim.Native.Nat.{◌<◌}
 use native.Mathlib.Numerals.{add-one}
 use native.Mathlib.Omega.{arith}
 use lib.ListN.{length, drop_of_length-le}
