@@ -2,6 +2,7 @@
 //
 // Each is the call below it, and says its answer as one number with its sign: the bytes or words that were written, or minus the documents' number.
 #![tactic(auto)]
+
 ghost use Rattle.std.specs.Prelude.{◌≡◌, ◌≤◌, length};
 ghost use Rattle.books.specs.Layout.{room_for};
 ghost use Rattle.store.specs.Making.{made, made_words};

@@ -1,5 +1,6 @@
 // The exchange's New Order Request (source document 000, 4.1.1): an N written as one, and one read back. docs/MESSAGE.md has the table's rows.
 #![tactic(auto)]
+
 ghost use Rattle.std.specs.Prelude.{◌≡◌, true, ◌+◌, ◌≤◌, length, replicate};
 ghost use Rattle.rulebook.specs.Names.{word};
 ghost use Rattle.rulebook.specs.Lines.{identifier, mpid};

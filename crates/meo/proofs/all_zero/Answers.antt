@@ -1,5 +1,5 @@
 -- `meo::all_zero` meets its contract: what is left is zero exactly if all is.
-use Prim.Native.Nat.{◌<◌, ◌-◌}
+use Prim.Native.Nat.{◌<◌}
 use native.Mathlib.Numerals.{add-one}
 use native.Mathlib.Omega.{arith}
 use lib.ListN.{length, drop_of_length-le}

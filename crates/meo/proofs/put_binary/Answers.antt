@@ -1,13 +1,10 @@
 -- `meo::put_binary` meets its contract: the rest, put from here, makes what the whole makes.
-use mathlib.Core.Path.{◌≡◌, refl, ◌∙◌}
+use mathlib.Core.Path.{◌≡◌, ◌∙◌}
 use Prim.Native.Nat.{suc, ◌+◌, ◌-◌}
 use native.Mathlib.Omega.{arith}
 use Rattle.fields.specs.Out.{puts}
 use Rattle.packing.specs.Words.{row}
 use Rattle.meo.proofs.put_binary.Goals as goal
-
-pub loop-i-init : goal.loop-i-init
-loop-i-init c = let n = c.args.width in let z : n - 0 ≡ n = omega arith in (rw z, refl, omega arith)
 
 pub loop-i-preserved : goal.loop-i-preserved
 unfolding puts row

@@ -8,6 +8,3 @@ put_filled-e-requires c = rw c.part.ensures (omega (arith, (formed _ _ c.require
 
 pub put_filled-requires : goal.put_filled-requires
 put_filled-requires c = rw c.part-2.ensures (formed _ _ c.requires).name_most
-
-pub returns : goal.returns
-returns c = rw (← c.part.ensures, ← c.part-2.ensures, ← c.put_filled-e.ensures) c.put_filled.ensures

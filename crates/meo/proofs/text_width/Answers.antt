@@ -1,17 +1,13 @@
 -- `meo::text_width` meets its contract: from each place passed, the text ends where it ends from the first.
 use mathlib.Core.Path.{◌≡◌}
-use Prim.Native.Nat.{suc, ◌<◌, ◌-◌, ◌+◌}
+use Prim.Native.Nat.{suc, ◌<◌, ◌+◌}
 use native.Mathlib.Numerals.{add-one}
-use native.Mathlib.Nat.{zero-add}
 use native.Mathlib.Omega.{arith}
 use lib.ListN.{length, drop, drop_of_length-le}
 use lib.Seq.{drop-cons}
 use borrow.Author.Tests.{ne_eqb}
 use Rattle.meo.specs.Messages.{text_width}
 use Rattle.meo.proofs.text_width.Goals as goal
-
-pub loop-i-init : goal.loop-i-init
-loop-i-init c = zero-add (text_width c.args.f.now)
 
 pub returns-then-f-i-eq0 : goal.returns-then-f-i-eq0
 unfolding text_width
