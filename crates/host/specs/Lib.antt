@@ -1,2 +1,1 @@
 pub mod Exporting
-pub mod Telling

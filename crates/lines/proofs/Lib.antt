@@ -1,4 +1,5 @@
 pub mod Single
+-- the laws of splitting
 pub mod Joining
 pub mod Places
 pub mod Fronts

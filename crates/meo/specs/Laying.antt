@@ -1,6 +1,6 @@
 -- The message as it is written: the house message, and over it the fields of N, zeros and a space.
-use Rattle.std.specs.Prelude.{◌≡◌, refl, true, List, [], ◌∷◌, ◌++◌, map, ℕ, suc, ◌+◌, ◌-◌, ◌≤◌, length, take, drop, replicate, eqb}
-use Rattle.std.proofs.Common.{sym, ap, ◌∙◌, append_assoc, append-nil, arith, length-append, length-drop, length-take, take_all, eqb-true, le-leb}
+use Rattle.std.specs.Prelude.{◌≡◌, refl, true, List, [], ◌∷◌, ◌++◌, map, ℕ, suc, ◌-◌, ◌≤◌, length, take, drop, replicate, eqb}
+use Rattle.std.proofs.Common.{sym, ap, ◌∙◌, append-nil, arith, length-take, eqb-true}
 use Rattle.std.proofs.lemmas.Bool.{false≢true}
 use Rattle.laws.specs.Checks.{rules_read}
 use Rattle.laws.specs.Tests.{both, split}
@@ -11,14 +11,12 @@ use Rattle.rulebook.proofs.Cases.{in_range}
 use Rattle.fields.specs.Parts.{unnamed, unlisted, stretch, said, takes, every}
 use Rattle.fields.specs.Trips.{text_has}
 use Rattle.fields.specs.Puts.{puts_then}
-use Rattle.fields.specs.declared.Written.{Written}
-use Rattle.fields.specs.declared.Written.TheVariants.{Bytes}
 use Rattle.packing.specs.Words.{row}
 use Rattle.packing.specs.Fitting.{fits}
-use Rattle.fields.specs.Out.{Out, Left, left, out, puts, handed, begun}
+use Rattle.fields.specs.Out.{Out, puts}
 use Rattle.meo.specs.Table.{filled, Row, alphanumeric, binary, house, lay, side_bits, instructions, Order, table}
 use Rattle.meo.specs.Messages.{order_said, in_form, is_message, message, text_width}
-use Rattle.meo.specs.Parts.{stretch_before, drop_before, stretch_add, Fits, length_lay, lay_append, lay_house, next, begins_next}
+use Rattle.meo.specs.Parts.{stretch_add, Fits, length_lay, lay_append, lay_house}
 use Rattle.meo.specs.declared.NewOrder.{NewOrder}
 
 -- ── an N in its forms ──
@@ -103,7 +101,7 @@ pub message_length : (l : List ℕ) (n : NewOrder) (h : List ℕ) → in_form l 
 unfolding message
 message_length l n h e k = length_lay h 0 (table (order_said l n)) (table_fits l n e) (omega arith)
 
-own_length : (l : List ℕ) (n : NewOrder) (h : List ℕ) → in_form l n ≡ true → length h ≡ 131 → length (lay h 10 (own (order_said l n))) ≡ 42
+pub own_length : (l : List ℕ) (n : NewOrder) (h : List ℕ) → in_form l n ≡ true → length h ≡ 131 → length (lay h 10 (own (order_said l n))) ≡ 42
 own_length l n h e k = length_lay h 10 (own (order_said l n)) (own_fits l n e) (omega arith)
 
 pub zero_rows : (h : List ℕ) → lay h 87 fixed ≡ replicate 20 0
@@ -136,31 +134,6 @@ pub own_puts : (s : Out) (h : List ℕ) (o : Order)
     → puts (puts (puts (puts (puts (puts s (filled 32 4 o.mpid)) (filled 0 20 o.name)) (row 4 o.symbol)) (row 8 o.price)) (row 4 o.size)) (row 2 (instructions o.side (word (stretch h 50 52)))) ≡ puts s (lay h 10 (own o))
 unfolding lay
 own_puts s h o = rw (append-nil) (simp puts_then)
-
--- from the house message handed over, what each of the three puts leaves
-pub message_laid : (l : List ℕ) (n : NewOrder) (h b : List ℕ) → is_message h ≡ true → in_form l n ≡ true → 131 ≤ length b
-    → (d e f g : List ℕ) (w : Written) (i j k : ℕ) → left d w ≡ handed h 131 b → out e i ≡ puts (out d 10) (lay h 10 (own (order_said l n)))
-    → out f j ≡ puts (out e 87) (replicate 20 0) → out g k ≡ puts (out f 111) (32 ∷ []) → g ≡ begun (message h (order_said l n)) b
-unfolding handed
-message_laid l n h b t ok long d e f g w i j k p q r s =
-    let o = order_said l n in
-    let hl = message_long h t in
-    let al = own_length l n h ok hl in
-    let handed_is : handed h 131 b ≡ left (take 131 h ++ drop 131 b) (Bytes 131) = rw (le-leb 131 (length h) (omega arith), le-leb 131 (length b) long) in
-    let d_is : d ≡ h ++ drop 131 b = ap (λ (x : Left). x.buffer) (p ∙ handed_is) ∙ rw (take_all 131 h (omega arith)) in
-    let dl : length d ≡ length b = rw (d_is, length-append, length-drop) (omega arith) in
-    let A = lay h 10 (own o) in
-    let Z : List ℕ = replicate 20 0 in
-    let x = next d [] 10 A in
-    let y = next d x 87 Z in
-    let one = begins_next d [] d e 10 i A refl (omega arith) (omega (arith, al)) q in
-    let two = begins_next d x e f 87 j Z one.1 (omega (arith, one.0, al)) (omega arith) r in
-    let three = begins_next d y f g 111 k (32 ∷ []) two.1 (omega (arith, two.0)) (omega arith) s in
-    let xl : length x ≡ 52 = omega (arith, one.0, al) in
-    let yl : length y ≡ 107 = omega (arith, two.0) in
-    let zl : length (next d y 111 (32 ∷ [])) ≡ 112 = omega (arith, three.0) in
-    let g_is : g ≡ (((stretch h 0 10 ++ A) ++ (stretch h 52 87 ++ Z)) ++ (stretch h 107 111 ++ (32 ∷ []))) ++ (stretch h 112 131 ++ drop 131 b) = three.1 ∙ rw (zl, yl, xl, d_is, stretch_before h (drop 131 b) 0 10 (omega arith) (omega arith), stretch_before h (drop 131 b) 52 87 (omega arith) (omega arith), stretch_before h (drop 131 b) 107 111 (omega arith) (omega arith), drop_before h (drop 131 b) 112 131 (omega arith) (omega arith)) in
-    g_is ∙ rw (message_length l n h ok hl, in_parts h o t) (simp append_assoc)
 
 text_width_le : (cs : List ℕ) → text_width cs ≤ length cs
 unfolding text_width

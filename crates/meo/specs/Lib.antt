@@ -4,6 +4,3 @@ pub mod Messages
 -- and its laws
 pub mod Parts
 pub mod Laying
-pub mod Trips
--- what is promised
-pub mod Orders

@@ -3,7 +3,7 @@ use mathlib.Core.Path.{◌∙◌}
 use native.Mathlib.Omega.{arith}
 use mir.Syntax.{w64}
 use mir.ValLaws.{to_z_pos}
-use Rattle.host.specs.Telling.{block_told, block_fits}
+use Rattle.host.proofs.Telling.{block_told, block_fits}
 use Rattle.host.proofs.ticketmoss_block.Goals as goal
 
 pub overflow_cast-result : goal.overflow_cast-result

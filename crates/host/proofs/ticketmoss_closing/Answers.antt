@@ -3,7 +3,7 @@ use mathlib.Core.Path.{◌∙◌}
 use native.Mathlib.Omega.{arith}
 use mir.Syntax.{w64}
 use mir.ValLaws.{to_z_pos}
-use Rattle.host.specs.Telling.{closing_told, closing_fits}
+use Rattle.host.proofs.Telling.{closing_told, closing_fits}
 use Rattle.host.proofs.ticketmoss_closing.Goals as goal
 
 pub overflow_cast-result : goal.overflow_cast-result

@@ -1,7 +1,7 @@
 -- `host::ticketmoss_order_read` meets its contract: it says what `meo::read` says, and 43 last.
 use mathlib.Core.Path.{sym, ap, ◌∙◌}
 use Rattle.meo.specs.Messages.{Heard}
-use Rattle.host.specs.Telling.{order_refused, order_short, order_told}
+use Rattle.host.proofs.Telling.{order_refused, order_short, order_told}
 use Rattle.host.proofs.ticketmoss_order_read.Goals as goal
 
 pub returns-then-words-lt-ORDER : goal.returns-then-words-lt-ORDER

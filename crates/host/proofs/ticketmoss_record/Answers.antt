@@ -3,7 +3,7 @@ use mathlib.Core.Path.{◌∙◌}
 use native.Mathlib.Omega.{arith}
 use mir.Syntax.{w64}
 use mir.ValLaws.{to_z_pos}
-use Rattle.host.specs.Telling.{record_told, record_fits}
+use Rattle.host.proofs.Telling.{record_told, record_fits}
 use Rattle.host.proofs.ticketmoss_record.Goals as goal
 
 pub overflow_cast-result : goal.overflow_cast-result

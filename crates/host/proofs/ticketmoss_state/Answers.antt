@@ -1,7 +1,7 @@
 -- `host::ticketmoss_state` meets its contract: 22 where the test fails.
 use mathlib.Core.Path.{sym, ◌∙◌}
 use mathlib.Core.Bool.{true, false}
-use Rattle.host.specs.Telling.{state_told}
+use Rattle.host.proofs.Telling.{state_told}
 use Rattle.host.proofs.ticketmoss_state.Goals as goal
 
 pub returns-then-state_ok : goal.returns-then-state_ok

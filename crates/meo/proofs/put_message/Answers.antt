@@ -1,5 +1,5 @@
 -- `meo::put_message` meets its contract: what is laid over the house message is the message.
-use Rattle.meo.specs.Laying.{message_laid}
+use Rattle.meo.proofs.Laying.{message_laid}
 use Rattle.meo.proofs.put_message.Goals as goal
 
 pub returns : goal.returns

@@ -19,7 +19,7 @@ use Rattle.calls.specs.declared.Answered.{Answered}
 use Rattle.calls.specs.declared.Taken.{Taken}
 use Rattle.calls.specs.declared.Closed.{Closed}
 use Rattle.meo.specs.Messages.{sent_said, write_checks, write_said, read_checks, found_said, read_said}
-use Rattle.meo.specs.Orders.{read_order}
+use Rattle.meo.proofs.Orders.{read_order}
 use Rattle.meo.specs.declared.NewOrder.{NewOrder}
 use Rattle.meo.specs.declared.Found.{Found}
 use Rattle.meo.specs.declared.Sent.{Sent}

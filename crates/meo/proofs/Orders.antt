@@ -21,7 +21,7 @@ use Rattle.codec.specs.declared.Reading.TheVariants.{Broken, Group, Symbol, Open
 use Rattle.meo.specs.Table.{Order, table}
 use Rattle.meo.specs.Messages.{no_order, order_of, reading_of, order_said, in_form, is_message, message, sent_said, write_checks, write_said, write_left, order_at, plain, read_checks, Heard, found_said, read_said, Holds, Byte}
 use Rattle.meo.specs.Laying.{formed, message_long, message_length}
-use Rattle.meo.specs.Trips.{holds_lay, again, message_read, message_itself}
+use Rattle.meo.proofs.Trips.{holds_lay, again, message_read, message_itself}
 use Rattle.meo.specs.declared.NewOrder.{NewOrder}
 use Rattle.meo.specs.declared.Sent.{Sent}
 use Rattle.meo.specs.declared.Found.{Found}
