@@ -1,5 +1,6 @@
 // The public calls. Each does its own checking, and is stated for every memory, every line and every buffer.
 #![tactic(auto)]
+
 ghost use Rattle.std.specs.Prelude.{◌≡◌, true, [], ◌≤◌, length};
 ghost use Rattle.answers.specs.Answering.{answer_bytes, closing_bytes};
 ghost use Rattle.fields.specs.Out.{begun};

@@ -10,14 +10,20 @@ use Rattle.calls.specs.Keeping.{judged_line}
 use Rattle.calls.specs.Recording.{told}
 use Rattle.calls.proofs.judge_line.Goals as goal
 
-pub judge-verdict-requires : goal.judge-verdict-requires
-judge-verdict-requires c = let s = c in record { valid = (exactly s.args.mem.now).0 s.requires.mem_value; in_form = subst (InForm s.args.line.now) (sym c.read-rec.ensures) (read_in_form s.args.line.now); indexed = s.requires.indexed }
+pub judge-verdict-requires-clause-valid : goal.judge-verdict-requires-clause-valid
+judge-verdict-requires-clause-valid c = (exactly c.args.mem.now).0 c.requires.mem_value
+
+pub judge-verdict-requires-clause-in_form : goal.judge-verdict-requires-clause-in_form
+judge-verdict-requires-clause-in_form c = subst (InForm c.args.line.now) (sym c.read-rec.ensures) (read_in_form c.args.line.now)
 
 pub write_edit-requires : goal.write_edit-requires
-write_edit-requires c = let s = c in let t = told c.args.mem.now c.args.line.now c.requires.mem_value _ c.read-rec.ensures _ c.judge-verdict.ensures in record { storable = t.storable; last_at_bound = valid_last s.args.mem.now ((exactly s.args.mem.now).0 s.requires.mem_value) }
+write_edit-requires c =
+    let t = told c.args.mem.now c.args.line.now c.requires.mem_value _ c.read-rec.ensures _ c.judge-verdict.ensures in record { storable = t.storable; last_at_bound = valid_last c.args.mem.now ((exactly c.args.mem.now).0 c.requires.mem_value) }
 
 pub put_answer-requires : goal.put_answer-requires
-put_answer-requires c = let t = told c.args.mem.now c.args.line.now c.requires.mem_value _ c.read-rec.ensures _ c.judge-verdict.ensures in (t.short, c.requires.in_bounds)
+put_answer-requires c = ((told c.args.mem.now c.args.line.now c.requires.mem_value _ c.read-rec.ensures _ c.judge-verdict.ensures).short, c.requires.in_bounds)
 
 pub returns : goal.returns
-returns c = let s = c in let t = told c.args.mem.now c.args.line.now c.requires.mem_value _ c.read-rec.ensures _ c.judge-verdict.ensures in (λ j. record_left (bytes_said (c.put_answer.ensures.answer j)) (c.write_edit.ensures j) (c.put_answer.ensures.buffer j)) ∙ (λ j. record_left (wrote (t.answer j)) (t.written j) (begun (t.answer j) s.args.to.now)) ∙ sym (judged_line s.args.mem.now s.args.line.now s.args.to.now s.requires.in_bounds s.requires.mem_value)
+returns c =
+    let t = told c.args.mem.now c.args.line.now c.requires.mem_value _ c.read-rec.ensures _ c.judge-verdict.ensures in
+    (λ j. record_left (bytes_said (c.put_answer.ensures.answer j)) (c.write_edit.ensures j) (c.put_answer.ensures.buffer j)) ∙ (λ j. record_left (wrote (t.answer j)) (t.written j) (begun (t.answer j) c.args.to.now)) ∙ sym (judged_line c.args.mem.now c.args.line.now c.args.to.now c.requires.in_bounds c.requires.mem_value)

@@ -11,7 +11,14 @@ use Rattle.calls.specs.Taking.{so_far}
 use Rattle.calls.proofs.judge_lines.Given as goal
 
 abbrev pub invariant-loop-to : goal.invariant-loop-to
-invariant-loop-to l = (length l.mem ≡ length l.initial.mem) × (length l.heads ≡ length l.initial.heads) × (length l.links ≡ length l.initial.links) × (length l.to ≡ length l.initial.to) × (l.end ≤ length l.to) × (l.at ≤ length l.text) × (l.count ≤ l.at) × (state_ok l.mem ≡ true) × Indexed l.mem l.heads l.links × (one_by_one l.initial.mem (whole [] l.text) l.initial.to ≡ so_far l.text l.count l.at l.end l.mem l.to)
+invariant-loop-to l = record {
+  end_within : l.end ≤ length l.to;
+  at_within : l.at ≤ length l.text;
+  fewer : l.count ≤ l.at;
+  sound : state_ok l.mem ≡ true;
+  indexed : Indexed l.mem l.heads l.links;
+  taken : one_by_one l.initial.mem (whole [] l.text) l.initial.to ≡ so_far l.text l.count l.at l.end l.mem l.to;
+}
 
 abbrev pub decreases-loop-to : goal.decreases-loop-to
 decreases-loop-to l = length l.text - l.at

@@ -3,5 +3,5 @@ use native.Mathlib.Omega.{arith}
 use Rattle.chains.specs.Chain.{clear}
 use Rattle.calls.proofs.judge_more.Goals as goal
 
-pub judge_text-requires : goal.judge_text-requires
-judge_text-requires c = let s = c in record { mem_value = s.requires.mem_value; in_bounds = s.requires.in_bounds; clear = clear 16384 8192 _ (omega arith) (omega arith) s.requires.mem_bound }
+pub judge_text-requires-clause-clear : goal.judge_text-requires-clause-clear
+judge_text-requires-clause-clear c = clear 16384 8192 _ (omega arith) (omega arith) c.requires.mem_bound

@@ -1,34 +1,46 @@
 -- `calls::judge_text` meets its contract: the chains that show the keys to be apart are the index of the lines.
-use mathlib.Core.Path.{sym, ap, ◌∙◌, subst}
-use mathlib.Core.Bool.{true, false}
-use Prim.Native.Nat.{◌≤◌}
+use mathlib.Core.Path.{sym, ap, ◌∙◌}
 use native.Mathlib.Omega.{arith}
-use lib.ListN.{length}
-use borrow.Author.Tests.{not-true, not-false}
 use Rattle.store.specs.Indexing.{key_rows, indexed}
 use Rattle.state.specs.Whole.{parts_counted, by_keys}
 use Rattle.calls.specs.Blocks.{lines_of, asked}
 use Rattle.calls.specs.Taking.{block_bad, block_judged, one_taken}
-use Rattle.calls.specs.Indexing.{most_places, most_enough, clear_less}
+use Rattle.calls.specs.Indexing.{most_enough, clear_less}
 use Rattle.calls.proofs.judge_text.Goals as goal
 
 pub slice_reshared_read-chain_rows : goal.slice_reshared_read-chain_rows
 slice_reshared_read-chain_rows c = omega (arith, (parts_counted c.args.mem.now c.requires.mem_value).long)
 
 pub chain_rows-requires : goal.chain_rows-requires
-chain_rows-requires c = let s = c in let m = s.args.mem.now in let n = parts_counted m s.requires.mem_value in record { has_rows = key_rows m n _ (omega arith); clear = clear_less (most_enough s.args.alone m n).0 s.requires.clear }
+chain_rows-requires c =
+    let m = c.args.mem.now in
+    let n = parts_counted m c.requires.mem_value in record { has_rows = key_rows m n _ (omega arith); clear = clear_less (most_enough c.args.alone m n).0 c.requires.clear }
 
 pub returns-then-not-chain_rows : goal.returns-then-not-chain_rows
-returns-then-not-chain_rows c = let s = c in let m = s.args.mem.now in sym (block_bad m _ s.args.to.now s.requires.in_bounds (sym (by_keys m s.requires.mem_value) ∙ sym c.chain_rows.ensures.answer ∙ not-true _ c.if-not-chain_rows.true))
+returns-then-not-chain_rows c =
+    let m = c.args.mem.now in
+    sym (block_bad m _ c.args.to.now c.requires.in_bounds (sym (by_keys m c.requires.mem_value) ∙ sym c.chain_rows.ensures.answer ∙ c.if-not-chain_rows.true))
 
-pub judge_lines-requires : goal.judge_lines-requires
-judge_lines-requires c = let s = c in let m = s.args.mem.now in let k = c.chain_rows in let t = not-false _ c.if-not-chain_rows.false in let ok = sym (by_keys m s.requires.mem_value) ∙ sym k.ensures.0 ∙ t in let a = not-true s.args.alone c.if-not-alone.true in record { mem_value = ok; indexed = indexed (sym k.ensures.0 ∙ t) (k.ensures.1 t); mem_in_bounds = omega (arith, subst (λ a. most_places a m ≤ length s.args.links.now) a s.requires.clear.long, k.auto.1.1.1.1.1.1.0) }
+pub judge_lines-requires-clause-mem_value : goal.judge_lines-requires-clause-mem_value
+judge_lines-requires-clause-mem_value c = sym (by_keys c.args.mem.now c.requires.mem_value) ∙ sym c.chain_rows.ensures.answer ∙ c.if-not-chain_rows.false
+
+pub judge_lines-requires-clause-indexed : goal.judge_lines-requires-clause-indexed
+judge_lines-requires-clause-indexed c = indexed (sym c.chain_rows.ensures.answer ∙ c.if-not-chain_rows.false) (c.chain_rows.ensures.chains c.if-not-chain_rows.false)
 
 pub returns-then-not-alone : goal.returns-then-not-alone
-returns-then-not-alone c = let s = c in let m = s.args.mem.now in let k = c.chain_rows in let t = not-false _ c.if-not-chain_rows.false in let ok = sym (by_keys m s.requires.mem_value) ∙ sym k.ensures.0 ∙ t in let a = not-true s.args.alone c.if-not-alone.true in c.judge_lines.ensures ∙ sym (ap (λ a. asked m (lines_of a s.args.text.now) s.args.to.now) a ∙ block_judged m _ s.args.to.now s.requires.in_bounds ok)
+returns-then-not-alone c =
+    let m = c.args.mem.now in
+    let ok = sym (by_keys m c.requires.mem_value) ∙ sym c.chain_rows.ensures.answer ∙ c.if-not-chain_rows.false in
+    c.judge_lines.ensures ∙ sym (ap (λ a. asked m (lines_of a c.args.text.now) c.args.to.now) c.if-not-alone.true ∙ block_judged m _ c.args.to.now c.requires.in_bounds ok)
 
-pub judge_line-written-requires : goal.judge_line-written-requires
-judge_line-written-requires c = let s = c in let m = s.args.mem.now in let k = c.chain_rows in let t = not-false _ c.if-not-chain_rows.false in let ok = sym (by_keys m s.requires.mem_value) ∙ sym k.ensures.0 ∙ t in record { mem_value = ok; indexed = indexed (sym k.ensures.0 ∙ t) (k.ensures.1 t); in_bounds = s.requires.in_bounds }
+pub judge_line-written-requires-clause-mem_value : goal.judge_line-written-requires-clause-mem_value
+judge_line-written-requires-clause-mem_value c = sym (by_keys c.args.mem.now c.requires.mem_value) ∙ sym c.chain_rows.ensures.answer ∙ c.if-not-chain_rows.false
+
+pub judge_line-written-requires-clause-indexed : goal.judge_line-written-requires-clause-indexed
+judge_line-written-requires-clause-indexed c = indexed (sym c.chain_rows.ensures.answer ∙ c.if-not-chain_rows.false) (c.chain_rows.ensures.chains c.if-not-chain_rows.false)
 
 pub returns : goal.returns
-returns c = let s = c in let m = s.args.mem.now in let k = c.chain_rows in let t = not-false _ c.if-not-chain_rows.false in let ok = sym (by_keys m s.requires.mem_value) ∙ sym k.ensures.0 ∙ t in let a = not-false s.args.alone c.if-not-alone.false in one_taken m s.args.text.now s.args.to.now ok s.requires.in_bounds c.judge_line-written.ensures ∙ sym (ap (λ a. asked m (lines_of a s.args.text.now) s.args.to.now) a)
+returns c =
+    let m = c.args.mem.now in
+    let ok = sym (by_keys m c.requires.mem_value) ∙ sym c.chain_rows.ensures.answer ∙ c.if-not-chain_rows.false in
+    one_taken m c.args.text.now c.args.to.now ok c.requires.in_bounds c.judge_line-written.ensures ∙ sym (ap (λ a. asked m (lines_of a c.args.text.now) c.args.to.now) c.if-not-alone.false)

@@ -3,7 +3,7 @@ use Rattle.calls.specs.Keeping.{line_begun, line_count, has_room}
 use Rattle.calls.proofs.put_answer.Goals as goal
 
 pub returns-in-Bytes : goal.returns-in-Bytes
-returns-in-Bytes c =record { answer = line_count _ _ _ _ _ c.write_answer.ensures c.requires _ c.count-1.given.1; buffer = line_begun _ _ _ _ _ c.write_answer.ensures c.requires }
+returns-in-Bytes c = record { answer = line_count _ _ _ _ _ c.write_answer.ensures c.requires _ c.in-Bytes.is; buffer = line_begun _ _ _ _ _ c.write_answer.ensures c.requires }
 
 pub returns-in-NoRoom : goal.returns-in-NoRoom
-returns-in-NoRoom c = absurd (has_room _ _ _ _ _ c.write_answer.ensures c.requires c.enum_told-1.given.1)
+returns-in-NoRoom c = absurd (has_room _ _ _ _ _ c.write_answer.ensures c.requires c.in-NoRoom.is)

@@ -5,7 +5,7 @@ use Rattle.calls.specs.declared.Closed.{Closed}
 use Rattle.calls.proofs.put_closing.Goals as goal
 
 pub returns-in-Bytes : goal.returns-in-Bytes
-returns-in-Bytes c =record { answer = ap Closed.Line (line_count _ _ _ _ _ c.write_closing.ensures c.requires _ c.count-1.given.1); buffer = line_begun _ _ _ _ _ c.write_closing.ensures c.requires }
+returns-in-Bytes c = record { answer = ap Closed.Line (line_count _ _ _ _ _ c.write_closing.ensures c.requires _ c.in-Bytes.is); buffer = line_begun _ _ _ _ _ c.write_closing.ensures c.requires }
 
 pub returns-in-NoRoom : goal.returns-in-NoRoom
-returns-in-NoRoom c = absurd (has_room _ _ _ _ _ c.write_closing.ensures c.requires c.enum_told-1.given.1)
+returns-in-NoRoom c = absurd (has_room _ _ _ _ _ c.write_closing.ensures c.requires c.in-NoRoom.is)

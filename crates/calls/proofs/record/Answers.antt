@@ -4,10 +4,10 @@ use Rattle.calls.specs.declared.Taken.{Taken}
 use Rattle.calls.proofs.record.Goals as goal
 
 pub returns-in-Lines : goal.returns-in-Lines
-returns-in-Lines c = recorded_by _ _ _ _ c.written-1.given.1 c.judge_checked.ensures
+returns-in-Lines c = recorded_by _ _ _ _ c.in-Lines.is c.judge_checked.ensures
 
 pub returns-in-ShortBuffer : goal.returns-in-ShortBuffer
-returns-in-ShortBuffer c = recorded_by _ _ _ Taken.ShortBuffer c.enum_told-1.given.1 c.judge_checked.ensures
+returns-in-ShortBuffer c = recorded_by _ _ _ Taken.ShortBuffer c.in-ShortBuffer.is c.judge_checked.ensures
 
 pub returns-in-BadState : goal.returns-in-BadState
-returns-in-BadState c = recorded_by _ _ _ Taken.BadState c.enum_told-in-BadState-1.given.1 c.judge_checked.ensures
+returns-in-BadState c = recorded_by _ _ _ Taken.BadState c.in-BadState.is c.judge_checked.ensures
