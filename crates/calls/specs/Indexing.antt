@@ -1,11 +1,9 @@
 -- The index from line to line: what a record does to the table's keys.
-use Rattle.std.specs.Prelude.{◌≡◌, refl, Bool, true, false, cond, List, [], ◌∷◌, ◌++◌, ℕ, ◌+◌, ◌≤◌, ◌<◌, length}
+use Rattle.std.specs.Prelude.{◌≡◌, refl, Bool, true, false, cond, List, [], ◌∷◌, ◌++◌, ℕ, ◌+◌, ◌≤◌, length}
 use Rattle.std.proofs.Common.{sym, ap, ◌∙◌, subst, append-nil, arith}
 use Rattle.laws.specs.Numbered.{apart}
-use Rattle.rulebook.specs.Lines.{Record}
 use Rattle.rulebook.specs.Kept.{Asked, Books}
 use Rattle.rulebook.specs.Judging.{Edit, nothing, opened, listed, remembered, taken, apply, judge}
-use Rattle.rulebook.specs.Day.{step}
 use Rattle.books.specs.Layout.{room_for, room_of, places_at}
 use Rattle.books.specs.View.{head_in, same_place, rows_of, view}
 use Rattle.books.specs.Refining.{Counted}

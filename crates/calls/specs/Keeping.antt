@@ -2,7 +2,7 @@
 use Rattle.std.specs.Prelude.{◌≡◌, true, false, List, ℕ, ◌≤◌, ◌<◌, length, replicate}
 use Rattle.std.proofs.Math.Path.{refl}
 use Rattle.std.proofs.Common.{sym, ap, ◌∙◌, subst, arith, lt-ltb, le-ltb}
-use Rattle.std.proofs.Math.Option.{Option, none, some, Option-elim}
+use Rattle.std.proofs.Math.Option.{none, some, Option-elim}
 use Rattle.std.proofs.Math.Decide.{dec_lt}
 use Rattle.laws.specs.Checks.{first}
 use Rattle.rulebook.specs.Kept.{Group, tally}

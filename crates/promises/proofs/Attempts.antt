@@ -13,7 +13,7 @@ use Rattle.rulebook.specs.Day as day
 use Rattle.rulebook.specs.Day.{Marks, no_marks, noted, marked, run}
 use Rattle.rulebook.proofs.Retries.{repeated, struck_request}
 use Rattle.calls.specs.Calling.{said_by}
-use Rattle.promises.specs.Day.{Call, lines, Since, heard, struck, struck_after, FirstAttempt}
+use Rattle.promises.specs.Day.{Call, lines, Since, heard, struck_after, FirstAttempt}
 use Rattle.promises.proofs.Striking.{same_line, Agree, agree_heard, struck_same}
 
 -- what the lines of a day mark is what its records mark

@@ -4,7 +4,6 @@ use Rattle.std.proofs.Common.{sym, ◌∙◌, subst, arith}
 use Rattle.std.proofs.Math.Path.{ap}
 use Rattle.std.proofs.Math.Option
 use Rattle.std.proofs.Math.Option.{Option, none, some, none-ne-some, some-injective}
-use Prim.Native.Char.{code}
 use Rattle.std.proofs.Math.ListN.{get_elem?}
 use Rattle.laws.specs.Tests.{opt}
 use Rattle.rulebook.specs.Kept.{Group, Books, fresh_books, tally}
