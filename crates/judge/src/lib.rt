@@ -1,5 +1,6 @@
 // The verdict on a record, over the lent words: what it is answered, and what it changes.
 #![tactic(auto)]
+
 ghost use Rattle.std.specs.Prelude.{◌≡◌, cond, eqb};
 ghost use Rattle.laws.specs.Checks.{first};
 ghost use Rattle.laws.specs.Rows.{Sheet};

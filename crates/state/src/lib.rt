@@ -1,6 +1,7 @@
 // The state rules of the whole lent memory: 22 where they fail. The memory may be anything, and of any length.
 // The time is linear in the places: identifiers are told apart by chains, and the open values of all groups are summed in one pass.
 #![tactic(auto)]
+
 ghost use Rattle.std.specs.Prelude.{◌≡◌, true, false, ◌+◌, ◌≤◌, ◌<◌, length};
 ghost use Rattle.laws.specs.Numbered.{every, apart};
 ghost use Rattle.books.specs.Layout.{groups, symbols, base_of, width_of, room_of, groups_at, symbols_at, places_at};

@@ -13,12 +13,6 @@ request_at-b-requires c = let v = valid_counted _ c.requires.known.valid in reco
 pub same_asking-requires : goal.same_asking-requires
 same_asking-requires c = known_row c.args.mem.now c.args.key c.args.i _ c.requires.known c.request_at-b.ensures
 
-pub overflow_add-b : goal.overflow_add-b
-overflow_add-b c = omega (arith, known_row c.args.mem.now c.args.key c.args.i _ c.requires.known c.request_at-b.ensures)
-
-pub offset_bounds-mem-b : goal.offset_bounds-mem-b
-offset_bounds-mem-b c = omega (arith, known_row c.args.mem.now c.args.key c.args.i _ c.requires.known c.request_at-b.ensures)
-
 pub bounds-mem-b : goal.bounds-mem-b
 bounds-mem-b c = omega (arith, known_row c.args.mem.now c.args.key c.args.i _ c.requires.known c.request_at-b.ensures)
 

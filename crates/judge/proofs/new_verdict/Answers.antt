@@ -4,8 +4,5 @@ use Rattle.books.specs.View.{rows_of}
 use Rattle.judge.specs.Doors.{remembers}
 use Rattle.judge.proofs.new_verdict.Goals as goal
 
-pub deal_ruling-ruling-requires : goal.deal_ruling-ruling-requires
-deal_ruling-ruling-requires c = record { desk = c.requires.desk; small_deal = c.requires.small_deal; indexed = c.requires.indexed }
-
 pub returns : goal.returns
 returns c = let m = c.args.mem.now in rw (c.sent_for.ensures, c.asking_of-asking.ensures) at c.answer.ensures ∙ remembers (rows_of m) _ _ c.deal_ruling-ruling.ensures c.args.key c.args.deal

@@ -13,19 +13,11 @@ find_group-group-requires c = valid_counted _ c.requires.valid
 pub returns-then-group-mem : goal.returns-then-group-mem
 returns-then-group-mem c = let m = c.args.mem.now in c.reply.ensures (rows_of m) ∙ ap (verdict_in_rows (rows_of m)) (sym (no_desk m (requested c.args.key c.args.deal) _ c.find_group-group.ensures c.if-group-mem.true))
 
-pub find_place-requires : goal.find_place-requires
-find_place-requires c = record { counted = valid_counted _ c.requires.valid; indexed = c.requires.indexed }
+pub find_place-requires-clause-counted : goal.find_place-requires-clause-counted
+find_place-requires-clause-counted c = valid_counted _ c.requires.valid
 
-pub known_verdict-requires : goal.known_verdict-requires
-known_verdict-requires c = record { known = known_at c.args.mem.now c.requires.valid c.args.key _ c.in-At.ensures; sided = c.requires.sided }
-
-pub new_verdict-requires : goal.new_verdict-requires
-new_verdict-requires c = record {
-  desk = record { valid = c.requires.valid; listed = c.if-group-mem.false; found = sym c.find_group-group.ensures };
-  sided = c.requires.sided;
-  small_deal = c.requires.small_deal;
-  indexed = c.requires.indexed;
-}
+pub known_verdict-requires-clause-known : goal.known_verdict-requires-clause-known
+known_verdict-requires-clause-known c = known_at c.args.mem.now c.requires.valid c.args.key _ c.in-At.ensures
 
 pub returns-in-At : goal.returns-in-At
 returns-in-At c = let m = c.args.mem.now in let r = requested c.args.key c.args.deal in c.known_verdict.ensures ∙ ap (verdict_in_rows (rows_of m)) (sym (at_table m r _ (record { valid = c.requires.valid; listed = c.if-group-mem.false; found = sym c.find_group-group.ensures }) ∙ ap (at_place m r _) (sym c.in-At.ensures)))

@@ -2,7 +2,7 @@
 use borrow.Author.Rules.{rules}
 use mathlib.Core.Path.{sym, ◌∙◌}
 use native.Mathlib.Omega.{arith}
-use borrow.Author.Count.{below_none, below_more}
+use borrow.Author.Count.{below_more}
 use borrow.Author.Tests.{eq-eqb, ne_eqb}
 use lib.Dec.{eqb}
 use lib.ListN.{get_or}
@@ -12,9 +12,6 @@ use Rattle.books.specs.View.{rows_of}
 use Rattle.state.specs.Summing.{sums_compared}
 use Rattle.laws.specs.Tests.{two, first_fails, second_fails}
 use Rattle.state.proofs.sums_same.Goals as goal
-
-pub loop-g-init : goal.loop-g-init
-loop-g-init c = (search rules, below_none _)
 
 pub returns-then-mem-b : goal.returns-then-mem-b
 returns-then-mem-b c = sym (every_no _ _ _ c.loop-g-test.true (sums_compared _ _ c.requires.sums _ c.loop-g-test.true ∙ first_fails _ (ne_eqb _ _ c.if-mem-b.true)))
