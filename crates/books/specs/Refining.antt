@@ -1,4 +1,4 @@
--- The words that an edit writes say the books that the edit makes.
+-- What an edit has to meet so that the words that it writes say the books that it makes.
 use Rattle.std.specs.Prelude.{◌≡◌, Bool, false, ◌&&◌, List, ℕ, ◌+◌, ◌*◌, ◌≤◌, ◌<◌, length, eqb}
 use Rattle.std.proofs.Math.Option.{some}
 use Prim.Native.Char.{code}

@@ -1,5 +1,5 @@
--- Document 01, "Price protection takes its row by the order's own price": the code's table of six rows. Its bounds are tested once to
--- ascend, so a row takes the prices from the bound before its own up to its own.
+-- Document 01, "Price protection takes its row by the order's own price": the code's table of six rows. A row takes
+-- the prices from the bound before its own up to its own.
 use Rattle.std.specs.Prelude.{Bool, true, ◌&&◌, List, [], ◌∷◌, ℕ, zero, suc, ltb, get_or}
 use Rattle.rulebook.specs.Prices.{Row, row}
 use Rattle.checks.specs.declared.Row.{Row as RowWords}
@@ -29,13 +29,12 @@ row_said r = row r.bound r.percent r.dollars
 abbrev pub terms : Row → Row
 terms (row below percent dollars) = row 0 percent dollars
 
--- ── its bounds ascend ──
+-- ── whether its bounds ascend ──
 abbrev pub ascending : List RowWords → Bool
 ascending [] = true
 ascending (a ∷ []) = true
 ascending (a ∷ b ∷ l) = ltb a.bound b.bound && ascending (b ∷ l)
 
--- ── the row that takes a price ──
 -- where a row's prices begin: at the bound before its own
 abbrev pub start : List RowWords → ℕ → ℕ
 start l zero = 0

@@ -1,5 +1,4 @@
--- Document 01: "Each line has one reading and each record one line", and "A line that is read and written again is the same line".
--- `IsLine` says which bytes are the line of a record. The reading of bytes says a record exactly where they are its line.
+-- When a reading's fields are in their forms.
 use Rattle.std.specs.Prelude.{List, ℕ}
 use Rattle.laws.specs.Tables.{Each}
 use Rattle.rulebook.specs.Lines.{line_of}
@@ -8,7 +7,6 @@ use Rattle.codec.specs.Readings.{record_of}
 use Rattle.codec.specs.Writing.{fields_of}
 use Rattle.codec.specs.declared.Reading.{Reading}
 
--- ── written then read ──
 -- a reading whose fields, as they stand in the line beside it, are in their forms
 abbrev pub InForm : List ℕ → Reading → Type 0
 InForm l r = Each Says (line_of (record_of l r)).fields (fields_of l r)

@@ -1,5 +1,4 @@
--- THEOREM. However an input is cut into blocks, what the gate is lent are the input's lines. What is held from block to block is all that a
--- line's first 161 bytes depend on, and no LF stands in it, so the lines of what is held and the next block are those of the two together.
+-- What the program does with the blocks that it reads.
 use Rattle.std.specs.Prelude.{◌≡◌, false, ℕ, eqb}
 use mathlib.Core.List.{List, [], ◌∷◌, ◌++◌, map}
 use Rattle.laws.specs.Tables.{All}

@@ -8,5 +8,6 @@ pub mod Fresh
 pub mod Blocks
 -- and what it says
 pub mod Promises
+pub mod BlockPromises
 pub mod Examples
 pub mod Silence

@@ -1,2 +1,2 @@
-// Document 01 as definitions, with its theorems, all in specs/: no function.
+// Document 01 as definitions, in specs/, with its theorems, in proofs/: no function.
 #![tactic(auto)]
