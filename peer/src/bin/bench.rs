@@ -332,7 +332,7 @@ fn program(command: &[String], day: &str, turns: usize) -> Option<(f64, Vec<u8>)
     Some((best, wrote))
 }
 
-/// The two programs on the same file. The gate's is for x86-64: elsewhere it runs under an emulator, and its time says nothing.
+/// The two programs on the same file. The gate's is for x86-64, and elsewhere is not run.
 fn programs(name: &str, lines: &[String], folder: &str, gate: &[String], peer: &[String]) {
     let day = format!("{folder}/bench-day.in");
     if std::fs::write(&day, lines.concat()).is_err() {
@@ -354,7 +354,7 @@ fn programs(name: &str, lines: &[String], folder: &str, gate: &[String], peer: &
                 );
             } else {
                 println!(
-                    "| {name} | {} | same answers; under an emulator | {} | |",
+                    "| {name} | {} | same answers; not timed | {} | |",
                     lines.len(),
                     rate(theirs)
                 );
