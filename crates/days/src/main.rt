@@ -39,24 +39,10 @@ fn say_number(rt: &impl Print, number: u64) {
     let _ = rt.print(number);
 }
 
-// Reads until the buffer is full, the input ends or a read fails, and answers how many bytes the buffer then has.
-fn read_full(input: &mut impl io::Read, to: &mut [u8]) -> usize
-    ensures { result ≤ length to.new }
-{
-    let mut count = 0;
-    while count < to.len() {
-        match input.read(&mut to[count..]) {
-            Ok(0) | Err(_) => break,
-            Ok(more) => count += more,
-        }
-    }
-    count
-}
-
 // Reads a file, and answers how many bytes it has. Where there is none, standard error says why.
 fn read_file(rt: &(impl Files + Eprint), name: &str, to: &mut [u8]) -> usize {
     match fs::open(rt, name) {
-        Ok(mut file) => read_full(&mut file, to),
+        Ok(mut file) => input::read_full(&mut file, to),
         Err(why) => {
             let _ = eprintln!(rt; "{name}: {why}");
             0

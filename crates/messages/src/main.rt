@@ -7,33 +7,17 @@
 // of identifier and MPID in the message, symbol, side, size and price, and the N's line.
 #![tactic(auto)]
 
-ghost use Rattle.std.specs.Prelude.{◌≤◌, ◌<◌, length, IfOk};
+ghost use Rattle.std.specs.Prelude.{◌≤◌, ◌<◌, length};
 
 use codec::Reading;
 use fields::{Place, Written};
 use meo::{Found, NewOrder, Sent};
 use std::io;
-use std::io::Read;
 
 const MOST: usize = 200;
 
 fn say(rt: &impl Print, text: &[u8]) -> io::Result<()> {
     rt.write_all(text)
-}
-
-// Reads until the buffer is full or the input ends, and answers how many bytes came.
-fn read_full(input: &mut impl Read, to: &mut [u8]) -> io::Result<usize>
-    ensures { IfOk result (λ n. n ≤ length to.new) }
-{
-    let mut done = 0;
-    while done < to.len() {
-        let count = input.read(&mut to[done..])?;
-        if count == 0 {
-            break;
-        }
-        done += count;
-    }
-    Ok(done)
 }
 
 fn say_number(rt: &impl Print, n: u64) -> io::Result<()> {
@@ -229,6 +213,6 @@ fn test_vectors(rt: &impl Print, input: &[u8]) -> io::Result<()> {
 
 fn main(rt: HostRuntime) -> io::Result<()> {
     let mut input = [0; 65536];
-    let count = read_full(&mut rt.stdin(), &mut input)?;
+    let count = input::read_full(&mut rt.stdin(), &mut input);
     test_vectors(&rt, &input[..count])
 }

@@ -50,21 +50,6 @@ fn say_number(rt: &impl Print, n: u64) {
     let _ = rt.print(n);
 }
 
-// Reads until the buffer is full, the input ends or a read fails, and answers how many bytes the
-// buffer then has.
-fn read_full(input: &mut impl io::Read, to: &mut [u8]) -> usize
-    ensures { result ≤ length to.new }
-{
-    let mut count = 0;
-    while count < to.len() {
-        match input.read(&mut to[count..]) {
-            Ok(0) | Err(_) => break,
-            Ok(more) => count += more,
-        }
-    }
-    count
-}
-
 fn one_more(count: u64) -> u64 {
     std::num::wrapping_add_u64(count, 1)
 }
@@ -243,7 +228,7 @@ fn test_states(rt: &(impl Files + Print + Eprint)) {
         }
     };
     let mut text = text_buffer();
-    let count = read_full(&mut file, &mut text);
+    let count = input::read_full(&mut file, &mut text);
     let tally = test_lines(rt, &text[..count]);
     say(rt, b"states: ");
     say_number(rt, tally.good);

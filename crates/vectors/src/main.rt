@@ -8,12 +8,11 @@
 // vector, or of the text among those last ones.
 #![tactic(auto)]
 
-ghost use Rattle.std.specs.Prelude.{◌≤◌, ◌<◌, length, IfOk};
+ghost use Rattle.std.specs.Prelude.{◌≤◌, ◌<◌};
 
 use codec::Reading;
 use fields::{Place, Written};
 use std::io;
-use std::io::Read;
 
 // MPIDs as words, the first byte lowest.
 const ABCD: u64 = 0x4443_4241;
@@ -44,21 +43,6 @@ struct Step {
 
 fn say(rt: &impl Print, text: &[u8]) -> io::Result<()> {
     rt.write_all(text)
-}
-
-// Reads until the buffer is full or the input ends, and answers how many bytes came.
-fn read_full(input: &mut impl Read, to: &mut [u8]) -> io::Result<usize>
-    ensures { IfOk result (λ n. n ≤ length to.new) }
-{
-    let mut done = 0;
-    while done < to.len() {
-        let count = input.read(&mut to[done..])?;
-        if count == 0 {
-            break;
-        }
-        done += count;
-    }
-    Ok(done)
 }
 
 fn hex_value(digit: u8) -> u8
@@ -305,7 +289,7 @@ fn test_fixed_texts(rt: &impl Print) -> io::Result<()> {
 
 fn main(rt: HostRuntime) -> io::Result<()> {
     let mut input = [0; 65536];
-    let count = read_full(&mut rt.stdin(), &mut input)?;
+    let count = input::read_full(&mut rt.stdin(), &mut input);
     test_vectors(&rt, &input[..count])?;
     test_fixed_texts(&rt)
 }
