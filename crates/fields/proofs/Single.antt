@@ -5,6 +5,8 @@ use Prim.Native.Nat.{ℕ}
 use contract.Lifetimes.{Lfts}
 use denote.Triple.Clauses.{AtExit}
 use borrow.Fn.Kinds.{ParamKind, ResultKind, Out, Dens, res_t, ended_of}
+use Rattle.fields.proofs.FormFromU8.from.Kinds as from-kinds
+use Rattle.fields.proofs.FormFromU8.from.Reads as from-reads
 use Rattle.fields.proofs.byte_at.Kinds as byte-at-kinds
 use Rattle.fields.proofs.byte_at.Reads as byte-at-reads
 use Rattle.fields.proofs.field.Kinds as field-kinds
@@ -35,27 +37,39 @@ use Rattle.fields.proofs.limit_at.Kinds as limit-at-kinds
 use Rattle.fields.proofs.limit_at.Reads as limit-at-reads
 use Rattle.fields.proofs.is_ended.Kinds as is-ended-kinds
 use Rattle.fields.proofs.is_ended.Reads as is-ended-reads
-use Rattle.fields.proofs.put.Kinds as put-kinds
-use Rattle.fields.proofs.put.Reads as put_reads
-use Rattle.fields.proofs.put_all.Kinds as put-all-kinds
-use Rattle.fields.proofs.put_all.Reads as put-all-reads
-use Rattle.fields.proofs.put_text.Kinds as put-text-kinds
-use Rattle.fields.proofs.put_text.Reads as put-text-reads
-use Rattle.fields.proofs.put_number.Kinds as put-number-kinds
-use Rattle.fields.proofs.put_number.Reads as put-number-reads
-use Rattle.fields.proofs.put_letter.Kinds as put-letter-kinds
-use Rattle.fields.proofs.put_letter.Reads as put-letter-reads
-use Rattle.fields.proofs.put_texts.Kinds as put-texts-kinds
-use Rattle.fields.proofs.put_texts.Reads as put-texts-reads
-use Rattle.fields.proofs.put_numbers.Kinds as put-numbers-kinds
-use Rattle.fields.proofs.put_numbers.Reads as put-numbers-reads
+use Rattle.fields.proofs.Writer.put.Kinds as put-kinds
+use Rattle.fields.proofs.Writer.put.Reads as put_reads
+use Rattle.fields.proofs.Writer.put_all.Kinds as put-all-kinds
+use Rattle.fields.proofs.Writer.put_all.Reads as put-all-reads
+use Rattle.fields.proofs.Writer.put_text.Kinds as put-text-kinds
+use Rattle.fields.proofs.Writer.put_text.Reads as put-text-reads
+use Rattle.fields.proofs.Writer.put_number.Kinds as put-number-kinds
+use Rattle.fields.proofs.Writer.put_number.Reads as put-number-reads
+use Rattle.fields.proofs.Writer.put_letter.Kinds as put-letter-kinds
+use Rattle.fields.proofs.Writer.put_letter.Reads as put-letter-reads
+use Rattle.fields.proofs.Writer.put_texts.Kinds as put-texts-kinds
+use Rattle.fields.proofs.Writer.put_texts.Reads as put-texts-reads
+use Rattle.fields.proofs.Writer.put_numbers.Kinds as put-numbers-kinds
+use Rattle.fields.proofs.Writer.put_numbers.Reads as put-numbers-reads
 use Rattle.fields.proofs.hand_over.Kinds as hand-over-kinds
 use Rattle.fields.proofs.hand_over.Reads as hand-over-reads
-use Rattle.fields.specs.Out.{out, left}
+use Rattle.fields.specs.declared.Writer.{Writer}
+use Rattle.fields.specs.Out.{cursor, Leaves, left}
+use Rattle.fields.specs.Out as written
 
 -- two answers to one call are the same, as far as a reading of them tells, and so are the two buffers that it leaves
 abbrev pub Once : {B : Type 0} (n : ℕ) (ps : List (ParamKind n)) (r : ResultKind n) → Out n ps r → ((κs : Lfts n) → (res_t r κs).Denot → AtExit (ended_of n ps r) κs → B) → Type 0
 Once n ps r P seen = (κs : Lfts n) (a : Dens κs ps) (x y : (res_t r κs).Denot) (s t : AtExit (ended_of n ps r) κs) → P κs a x s → P κs a y t → seen κs x s ≡ seen κs y t
+
+-- a writer after a call: which buffer it holds, and where it stands in which bytes
+abbrev stands : Writer → ℕ × written.Out
+stands w = (w.to.ghost_name, cursor w)
+
+one_stand : (w v u : Writer) (o : written.Out) → Leaves w v o → Leaves w u o → stands v ≡ stands u
+one_stand w v u o p q = rw (p.0, p.1, q.0, q.1)
+
+from_once : Once 0 from-kinds.ps from-kinds.r from-reads.Post (λ κs x s. x)
+from_once κs a x y s t p q = p ∙ sym q
 
 byte_at_once : Once 1 byte-at-kinds.ps byte-at-kinds.r byte-at-reads.Post (λ κs x s. x)
 byte_at_once κs a x y s t p q = p ∙ sym q
@@ -102,26 +116,26 @@ limit_at_once κs a x y s t p q = p ∙ sym q
 is_ended_once : Once 1 is-ended-kinds.ps is-ended-kinds.r is-ended-reads.Post (λ κs x s. x)
 is_ended_once κs a x y s t p q = p ∙ sym q
 
-put_once : Once 1 put-kinds.ps put-kinds.r put_reads.Post (λ κs x s. out s.0.now x)
-put_once κs a x y s t p q = p ∙ sym q
+put_once : Once 2 put-kinds.ps put-kinds.r put_reads.Post (λ κs x s. stands s.0.now)
+put_once κs a x y s t p q = one_stand a.0.now s.0.now t.0.now _ p q
 
-put_all_once : Once 2 put-all-kinds.ps put-all-kinds.r put-all-reads.Post (λ κs x s. out s.0.now x)
-put_all_once κs a x y s t p q = p ∙ sym q
+put_all_once : Once 3 put-all-kinds.ps put-all-kinds.r put-all-reads.Post (λ κs x s. stands s.0.now)
+put_all_once κs a x y s t p q = one_stand a.0.now s.0.now t.0.now _ p q
 
-put_text_once : Once 2 put-text-kinds.ps put-text-kinds.r put-text-reads.Post (λ κs x s. out s.0.now x)
-put_text_once κs a x y s t p q = p ∙ sym q
+put_text_once : Once 3 put-text-kinds.ps put-text-kinds.r put-text-reads.Post (λ κs x s. stands s.0.now)
+put_text_once κs a x y s t p q = one_stand a.0.now s.0.now t.0.now _ p q
 
-put_number_once : Once 1 put-number-kinds.ps put-number-kinds.r put-number-reads.Post (λ κs x s. out s.0.now x)
-put_number_once κs a x y s t p q = p ∙ sym q
+put_number_once : Once 2 put-number-kinds.ps put-number-kinds.r put-number-reads.Post (λ κs x s. stands s.0.now)
+put_number_once κs a x y s t p q = one_stand a.0.now s.0.now t.0.now _ p q
 
-put_letter_once : Once 1 put-letter-kinds.ps put-letter-kinds.r put-letter-reads.Post (λ κs x s. out s.0.now x)
-put_letter_once κs a x y s t p q = p ∙ sym q
+put_letter_once : Once 2 put-letter-kinds.ps put-letter-kinds.r put-letter-reads.Post (λ κs x s. stands s.0.now)
+put_letter_once κs a x y s t p q = one_stand a.0.now s.0.now t.0.now _ p q
 
-put_texts_once : Once 2 put-texts-kinds.ps put-texts-kinds.r put-texts-reads.Post (λ κs x s. out s.0.now x)
-put_texts_once κs a x y s t p q = p ∙ sym q
+put_texts_once : Once 3 put-texts-kinds.ps put-texts-kinds.r put-texts-reads.Post (λ κs x s. stands s.0.now)
+put_texts_once κs a x y s t p q = one_stand a.0.now s.0.now t.0.now _ p q
 
-put_numbers_once : Once 1 put-numbers-kinds.ps put-numbers-kinds.r put-numbers-reads.Post (λ κs x s. out s.0.now x)
-put_numbers_once κs a x y s t p q = p ∙ sym q
+put_numbers_once : Once 2 put-numbers-kinds.ps put-numbers-kinds.r put-numbers-reads.Post (λ κs x s. stands s.0.now)
+put_numbers_once κs a x y s t p q = one_stand a.0.now s.0.now t.0.now _ p q
 
 hand_over_once : Once 2 hand-over-kinds.ps hand-over-kinds.r hand-over-reads.Post (λ κs x s. left s.1.1.0.now x)
 hand_over_once κs a x y s t p q = p ∙ sym q

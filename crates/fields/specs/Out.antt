@@ -1,8 +1,9 @@
 -- Writing into a buffer at a place. A byte that has no room changes nothing and sets the place past the end, from where no byte has room.
-use Rattle.std.specs.Prelude.{ℕ, ◌+◌, cond, ◌&&◌, length, take, drop, set, ltb, leb}
+use Rattle.std.specs.Prelude.{◌≡◌, ℕ, ◌+◌, cond, ◌&&◌, length, take, drop, set, ltb, leb, Result, Ok, Err}
 use mathlib.Core.List.{List, [], ◌∷◌, ◌++◌, foldl}
-use Rattle.fields.specs.declared.Written.{Written}
-use Rattle.fields.specs.declared.Written.TheVariants.{Bytes, NoRoom}
+use Rattle.fields.specs.declared.WriteError.{WriteError}
+use Rattle.fields.specs.declared.WriteError.TheVariants.{NoRoom}
+use Rattle.fields.specs.declared.Writer.{Writer}
 
 pub record Out : Type 0 where
   pub buffer : List ℕ
@@ -17,6 +18,14 @@ put_byte s c = cond (ltb s.at (length s.buffer)) (out (set s.buffer s.at c) (s.a
 -- bytes one after the other
 unfoldable pub puts : Out → List ℕ → Out
 puts s cs = foldl put_byte s cs
+
+-- where a writer stands
+abbrev pub cursor : Writer → Out
+cursor w = out w.to.now w.at
+
+-- a writer still writes into the same buffer, and stands here
+abbrev pub Leaves : Writer → Writer → Out → Type 0
+Leaves w v o = (v.to.ghost_name ≡ w.to.ghost_name) × (cursor v ≡ o)
 
 -- ── what a call says ──
 -- a number of the documents and no byte, or 0 and how many bytes were written
@@ -35,23 +44,23 @@ begun cs b = cs ++ drop (length cs) b
 -- what a writer leaves: the buffer, and what it says
 pub record Left : Type 0 where
   pub buffer : List ℕ
-  pub said : Written
+  pub said : Result ℕ WriteError
 
-abbrev pub left : List ℕ → Written → Left
+abbrev pub left : List ℕ → Result ℕ WriteError → Left
 left b w = record { buffer = b; said = w }
 
 -- the first n bytes of a list, put before what stands past them in the buffer; nothing where one of the two is shorter
 unfoldable pub handed : List ℕ → ℕ → List ℕ → Left
-handed d n b = cond (leb n (length d) && leb n (length b)) (left (take n d ++ drop n b) (Bytes n)) (left b NoRoom)
+handed d n b = cond (leb n (length d) && leb n (length b)) (left (take n d ++ drop n b) (Ok n)) (left b (Err NoRoom))
 
 -- a line of at most so many bytes, written whole into the buffer or not at all
 unfoldable pub wrote : ℕ → List ℕ → List ℕ → Left
-wrote most cs b = cond (leb (length cs) most && leb (length cs) (length b)) (left (cs ++ drop (length cs) b) (Bytes (length cs))) (left b NoRoom)
+wrote most cs b = cond (leb (length cs) most && leb (length cs) (length b)) (left (cs ++ drop (length cs) b) (Ok (length cs))) (left b (Err NoRoom))
 
 -- the number under which document 01 refuses a buffer, for what a writer says. The gate tests it before anything is judged
-abbrev pub room_number : Written → ℕ
-room_number (Bytes n) = 0
-room_number NoRoom = 21
+abbrev pub room_number : Result ℕ WriteError → ℕ
+room_number (Ok n) = 0
+room_number (Err NoRoom) = 21
 
 -- a line: the kind's byte, each field after a tab, the LF
 abbrev pub put_fields : Out → List (List ℕ) → Out

@@ -3,18 +3,19 @@
 use Rattle.std.specs.Prelude.{ℕ, suc, ◌+◌, ◌-◌, Bool, true, cond, not, ◌&&◌, ◌||◌, List, [], ◌∷◌, length, take, drop, get_or, leb, eqb}
 use Rattle.laws.specs.Tests.{is_none}
 use Rattle.laws.specs.Tables.{find}
-use Rattle.rulebook.specs.Names.{Ident, Mpid}
+use Rattle.rulebook.specs.Names.{Ident, Mpid as MpidWord}
 use Rattle.rulebook.specs.Lines.{Field, text, letter, number, from_to, buy, identifier, mpid, side, yes_no}
 use Rattle.fields.specs.Digits.{number_of}
+use Rattle.fields.specs.declared.Form.{Form}
+use Rattle.fields.specs.declared.Form.TheVariants.{Identifier, Mpid, Side, YesNo}
 use Rattle.fields.specs.declared.Place.{Place}
-use Rattle.fields.specs.declared.Number.{Number}
-use Rattle.fields.specs.declared.Letter.{Letter}
+use Rattle.fields.specs.declared.Parsed.{Parsed}
 
 -- a form is a field without its value
 abbrev pub unnamed : Ident
 unnamed = record { head = 0; middle = 0; tail = 0 }
 
-abbrev pub unlisted : Mpid
+abbrev pub unlisted : MpidWord
 unlisted = record { code = 0 }
 
 abbrev pub blank : Field → Field
@@ -67,15 +68,29 @@ end_at t l at = cond (has_form t (field_at l at)) (at + 1 + length (field_at l a
 abbrev pub text_at : Field → List ℕ → ℕ → Place
 text_at t l at = record { from = cond (has_form t (field_at l at)) (at + 1) 0; to = end_at t l at }
 
-abbrev pub number_at : Field → List ℕ → ℕ → Number
+abbrev pub number_at : Field → List ℕ → ℕ → Parsed ℕ
 number_at t l at = record { value = number_of (field_at l at); to = end_at t l at }
 
-abbrev pub letter_at : Field → List ℕ → ℕ → Letter
+abbrev pub letter_at : Field → List ℕ → ℕ → Parsed ℕ
 letter_at t l at = record { value = get_or (field_at l at) 0 0; to = end_at t l at }
 
--- the forms of texts and letters, by a number
-unfoldable pub form : ℕ → Field
-form k = cond (eqb k 0) (identifier unnamed) (cond (eqb k 1) (mpid unlisted) (cond (eqb k 2) (blank (side buy)) (blank (yes_no true))))
+-- the forms of texts and letters
+abbrev pub form : Form → Field
+form Identifier = identifier unnamed
+form Mpid = mpid unlisted
+form Side = blank (side buy)
+form YesNo = blank (yes_no true)
+
+-- a form by its number
+abbrev pub numbered : ℕ → Form
+numbered k = cond (eqb k 0) Identifier (cond (eqb k 1) Mpid (cond (eqb k 2) Side YesNo))
+
+-- the forms of letters
+abbrev pub IsLetter : Form → Type 0
+IsLetter Identifier = ⊥
+IsLetter Mpid = ⊥
+IsLetter Side = Unit {0}
+IsLetter YesNo = Unit {0}
 
 -- "ended by one LF. At most 160 bytes before the LF"
 unfoldable pub ended : List ℕ → Bool

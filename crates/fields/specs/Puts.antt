@@ -1,18 +1,32 @@
 -- What putting bytes leaves: the bytes at their place and all else as it was, or a place past the end.
-use Rattle.std.specs.Prelude.{◌≡◌, refl, cond, ◌&&◌, ℕ, suc, ◌+◌, ◌<◌, ◌≤◌, leb, length, take, drop, set}
+use Rattle.std.specs.Prelude.{◌≡◌, refl, cond, ◌&&◌, ℕ, suc, ◌+◌, ◌<◌, ◌≤◌, leb, length, take, drop, set, get_or, Ok, Err}
 use Rattle.std.proofs.Common.{sym, ap, ◌∙◌, ⊎_elim, arith, add-one, add-zero, zero-add, take-append-drop, length-set, length-append, take-suc-set, drop-set-lt, lt-ltb, le-ltb, le-leb}
 use mathlib.Core.List.{List, [], ◌∷◌, ◌++◌, foldl-append, append_assoc}
 use Rattle.std.proofs.Math.Seq.{take-append_seam}
 use Rattle.laws.specs.Tests.{on}
 use Rattle.std.proofs.lemmas.Bool.{lt-leb}
+use Rattle.std.proofs.lemmas.List.{take_more}
 use Rattle.fields.specs.Series.{tails}
 use Rattle.fields.specs.Out.{Out, out, put_byte, puts, put_fields, put_line, left, handed, wrote, room_number}
-use Rattle.fields.specs.declared.Written.TheVariants.{Bytes, NoRoom}
+use Rattle.fields.specs.declared.WriteError.TheVariants.{NoRoom}
 use Rattle.fields.specs.Numbers.{below}
 
 pub puts_then : (s : Out) (xs ys : List ℕ) → puts s (xs ++ ys) ≡ puts (puts s xs) ys
 unfolding puts
 puts_then s xs ys = foldl-append put_byte s xs ys
+
+pub puts_none : (s : Out) → puts s [] ≡ s
+unfolding puts
+puts_none s = refl
+
+-- a byte, and bytes after it
+pub puts_one : (s : Out) (c : ℕ) (ys : List ℕ) → puts (puts s (c ∷ [])) ys ≡ puts s (c ∷ ys)
+unfolding puts
+puts_one s c ys = refl
+
+-- the bytes up to a place, and the byte there
+pub puts_more : (s : Out) (xs : List ℕ) (i : ℕ) → i < length xs → puts (puts s (take i xs)) (get_or xs i 0 ∷ []) ≡ puts s (take (i + 1) xs)
+puts_more s xs i h = rw (take_more xs i 0 h) (sym (puts_then s (take i xs) (get_or xs i 0 ∷ [])))
 
 -- where there is room, the bytes stand at their place and all else is as it was
 pub puts_room : (cs d : List ℕ) (a : ℕ) → a + length cs ≤ length d → puts (out d a) cs ≡ out (take a d ++ (cs ++ drop (a + length cs) d)) (a + length cs)
@@ -74,10 +88,10 @@ staged_line k fs z d b n e = staged (k ∷ tails fs) z d b n (e ∙ put_line_is 
 -- THEOREM. A writer that says 21 leaves the buffer as it was
 pub no_room : (most : ℕ) (cs b : List ℕ) → room_number (wrote most cs b).said ≡ 21 → (wrote most cs b).buffer ≡ b
 unfolding wrote
-no_room most cs b = on (λ t. room_number (cond t (left (cs ++ drop (length cs) b) (Bytes (length cs))) (left b NoRoom)).said ≡ 21 → (cond t (left (cs ++ drop (length cs) b) (Bytes (length cs))) (left b NoRoom)).buffer ≡ b)
+no_room most cs b = on (λ t. room_number (cond t (left (cs ++ drop (length cs) b) (Ok (length cs))) (left b (Err NoRoom))).said ≡ 21 → (cond t (left (cs ++ drop (length cs) b) (Ok (length cs))) (left b (Err NoRoom))).buffer ≡ b)
     (leb (length cs) most && leb (length cs) (length b)) (λ e h. absurd (omega arith)) (λ e h. refl)
 
 -- THEOREM. With room it does not say so: the line stands at the buffer's start, and what is past the line stays
-pub room : (most : ℕ) (cs b : List ℕ) → length cs ≤ most → length cs ≤ length b → wrote most cs b ≡ left (cs ++ drop (length cs) b) (Bytes (length cs))
+pub room : (most : ℕ) (cs b : List ℕ) → length cs ≤ most → length cs ≤ length b → wrote most cs b ≡ left (cs ++ drop (length cs) b) (Ok (length cs))
 unfolding wrote
 room most cs b h k = rw (le-leb (length cs) most h, le-leb (length cs) (length b) k)

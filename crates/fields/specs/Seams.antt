@@ -1,13 +1,16 @@
 -- What stands around a field: the tab before it, the tab or LF after it, and that it lies within the line.
-use Rattle.std.specs.Prelude.{◌≡◌, refl, Bool, true, false, cond, ◌&&◌, List, [], ◌∷◌, ◌++◌, ℕ, suc, ◌+◌, ◌-◌, ◌<◌, ◌≤◌, length, take, drop, get_or, eqb}
-use Rattle.std.proofs.Common.{sym, ◌∙◌, subst, ⊎_elim, arith, add-one, length-drop, length-take, take-append-drop, drop-cons, drop-drop, leb-true, ne_eqb, eqb-true}
-use Rattle.std.proofs.Math.Bool.{and-eq-true_iff}
+use Rattle.std.specs.Prelude.{◌≡◌, refl, Bool, true, false, ◌&&◌, List, [], ◌∷◌, ◌++◌, ℕ, suc, ◌+◌, ◌-◌, ◌<◌, ◌≤◌, length, take, drop, get_or, eqb}
+use Rattle.std.proofs.Common.{sym, ◌∙◌, subst, ⊎_elim, arith, add-one, length-take, take-append-drop, drop-cons, drop-drop, le-leb, leb-true, ne_eqb, eqb-true}
+use Rattle.std.proofs.Math.Bool.{and-eq-true_iff, and-true}
+use Rattle.std.proofs.lemmas.Bool.{lt-leb}
 use Rattle.std.proofs.Math.ListN.{get_or-eq_default}
 use Rattle.laws.specs.Tests.{on, split}
 use Rattle.rulebook.specs.Names.{Ident}
-use Rattle.rulebook.specs.Lines.{ceiling, text, buy, side, yes_no}
+use Rattle.rulebook.specs.Lines.{ceiling, text}
 use Rattle.fields.specs.Digits.{number_of}
-use Rattle.fields.specs.Parts.{blank, stretch, ends, span, field_at, takes, has_form, form, ended}
+use Rattle.fields.specs.Parts.{stretch, ends, span, field_at, takes, every, has_form, form, IsLetter}
+use Rattle.fields.specs.declared.Form.{Form}
+use Rattle.fields.specs.declared.Form.TheVariants.{Identifier, Mpid, Side, YesNo}
 use Rattle.fields.specs.Numbers.{below}
 
 pub in_line : (l : List ℕ) (at : ℕ) → get_or l at 0 ≡ 9 → at < length l
@@ -38,9 +41,6 @@ field_is l at x = let k : at + 1 + span (drop (at + 1) l) - (at + 1) ≡ span (d
 pub field_length : (l : List ℕ) (at : ℕ) → get_or l at 0 ≡ 9 → length (field_at l at) ≡ span (drop (at + 1) l)
 field_length l at x = rw (field_is l at x, length-take) (omega (arith, span_le (drop (at + 1) l)))
 
-pub field_in : (l : List ℕ) (at : ℕ) → get_or l at 0 ≡ 9 → at + 1 + length (field_at l at) ≤ length l
-field_in l at x = omega (arith, in_line l at x, field_length l at x, span_le (drop (at + 1) l), length-drop (at + 1) l)
-
 -- a field is the stretch that its reader says
 pub field_stretch : (l : List ℕ) (at : ℕ) → get_or l at 0 ≡ 9 → stretch l (at + 1) (at + 1 + length (field_at l at)) ≡ field_at l at
 unfolding stretch
@@ -63,14 +63,16 @@ unfolding number_of
 number_tab l at h = tab_by (λ f. number_of f ≤ ceiling) l at h (λ z. omega arith)
 
 -- the forms of letters
-pub letter_form : (k : ℕ) (f : List ℕ) → 2 ≤ k → has_form (form k) f ≡ (eqb (length f) 1 && takes (form k) (get_or f 0 0))
-unfolding form has_form
-letter_form k f h =
-    rw (ne_eqb k 0 (λ e. omega arith), ne_eqb k 1 (λ e. omega arith))
-    (on (λ b. has_form (cond b (blank (side buy)) (blank (yes_no true))) f ≡ (eqb (length f) 1 && takes (cond b (blank (side buy)) (blank (yes_no true))) (get_or f 0 0))) (eqb k 2) (λ e. refl) (λ e. refl))
+pub letter_form : (k : Form) (f : List ℕ) → IsLetter k → has_form (form k) f ≡ (eqb (length f) 1 && takes (form k) (get_or f 0 0))
+unfolding has_form
+letter_form Identifier f h = absurd h
+letter_form Mpid f h = absurd h
+letter_form Side f h = refl
+letter_form YesNo f h = refl
 
--- nothing is no line
-pub none_ended : (l : List ℕ) → length l ≡ 0 → ended l ≡ false
-unfolding ended
-none_ended [] e = refl
-none_ended (x ∷ xs) e = absurd (omega arith)
+-- a letter is a text of one byte
+pub letter_text : (t : ℕ → Bool) (x : Ident) (f : List ℕ) → has_form (text 1 1 t x) f ≡ (eqb (length f) 1 && t (get_or f 0 0))
+unfolding has_form every
+letter_text t x [] = refl
+letter_text t x (b ∷ []) = and-true (t b)
+letter_text t x (b ∷ c ∷ bs) = let n : suc (suc (length bs)) ≡ 1 → ⊥ = λ e. omega arith in rw (le-leb 1 (suc (suc (length bs))) (omega arith), lt-leb (suc (suc (length bs))) 1 (omega arith), ne_eqb (suc (suc (length bs))) 1 n)

@@ -1,37 +1,46 @@
--- Lines by their places in a text: the next line from a place, byte by byte, and what is left where there is none.
-use Rattle.std.specs.Prelude.{◌≡◌, refl, false, ◌⊎◌, ℕ, zero, suc, ◌+◌, ◌-◌, ◌≤◌, ◌<◌, max, eqb, length, take, drop, get_or}
-use Rattle.std.proofs.Common.{sym, ap, subst, ◌∙◌, inl, inr, ⊎_elim, add-one, arith, length-append, length-take, length-drop, drop-cons, drop-drop, take-suc, get_or-drop}
+-- Lines by their places in a text: the next line from a place, and what is left where there is none.
+use Rattle.std.specs.Prelude.{◌≡◌, refl, cond, not, ◌⊎◌, false, ℕ, zero, suc, ◌+◌, ◌≤◌, max, eqb, ltb, length, take, drop, Option, Some, None}
+use Rattle.std.proofs.Common.{sym, ap, subst, ◌∙◌, inl, inr, ⊎_elim, arith, length-append, length-take, length-drop, drop-drop}
 use mathlib.Core.List.{List, [], ◌∷◌, ◌++◌, flatten, append-nil, append_assoc}
-use borrow.Author.Tests.{eq-eqb, ne_eqb}
+use borrow.Author.Tests.{lt-ltb, le-ltb}
+use Rattle.std.specs.List.{position_or_len}
 use Rattle.laws.specs.Tests.{on}
-use Rattle.fields.specs.Parts.{stretch}
+use Rattle.fields.specs.Numbers.{below}
 use Rattle.lines.specs.Splitting.{whole, rest, first, line_at}
 
--- ── the stretch that is searched ──
-pub stretch_none : (t : List ℕ) (at : ℕ) → stretch t at at ≡ []
-unfolding stretch
-stretch_none t at = let z : at - at ≡ 0 = omega arith in rw z
+-- ── the line up to the first LF ──
+-- how many bytes stand before the first LF, or the end
+abbrev pub before_lf : List ℕ → ℕ
+before_lf u = position_or_len (λ b. eqb b 10) u
 
-pub stretch_more : (t : List ℕ) (at end : ℕ) → at ≤ end → end < length t → stretch t at (end + 1) ≡ stretch t at end ++ (get_or t end 0 ∷ [])
-unfolding stretch
-stretch_more t at end le lt =
-    let n : end + 1 - at ≡ suc (end - at) = omega arith in
-    let m : at + (end - at) ≡ end = omega arith in
-    rw (n, take-suc (drop at t) (end - at) 0 (rw length-drop (omega arith)), get_or-drop, m)
+first_place : (held u : List ℕ) → first (whole held u) ≡ cond (ltb (before_lf u) (length u)) (held ++ take (before_lf u + 1) u) []
+unfolding whole
+first_place held [] = refl
+first_place held (b ∷ bs) = on (λ t. first (cond t ((held ++ (b ∷ [])) ∷ whole [] bs) (whole (held ++ (b ∷ [])) bs)) ≡ cond (ltb (cond (not t) (1 + before_lf bs) 0) (suc (length bs))) (held ++ take (cond (not t) (1 + before_lf bs) 0 + 1) (b ∷ bs)) []) (eqb b 10)
+    (λ e. rw (lt-ltb 0 (suc (length bs)) (omega arith)))
+    (λ e. first_place (held ++ (b ∷ [])) bs ∙ later (before_lf bs))
+  where
+    later : (k : ℕ) → cond (ltb k (length bs)) ((held ++ (b ∷ [])) ++ take (k + 1) bs) [] ≡ cond (ltb (1 + k) (suc (length bs))) (held ++ take (1 + k + 1) (b ∷ bs)) []
+    later k =
+        let e : 1 + k + 1 ≡ suc (k + 1) = omega arith in
+        ⊎_elim (λ h. rw (lt-ltb k (length bs) h, lt-ltb (1 + k) (suc (length bs)) (omega arith), e) (append_assoc held (b ∷ []) (take (k + 1) bs)))
+        (λ h. rw (le-ltb k (length bs) h, le-ltb (1 + k) (suc (length bs)) (omega arith)))
+        (below k (length bs))
 
-pub length_stretch : (t : List ℕ) (from to : ℕ) → to ≤ length t → length (stretch t from to) ≡ to - from
-unfolding stretch
-length_stretch t from to h = rw (length-take, length-drop) (omega arith)
+module _ (u : List ℕ) (r : Option ℕ) (q : r ≡ cond (ltb (before_lf u) (length u)) (Some (before_lf u)) None) where
+  -- where an LF is found, the first line ends with it
+  pub line_some : (n : ℕ) → r ≡ Some n → take (n + 1) u ≡ first (whole [] u)
+  line_some n e = ⊎_elim
+      (λ h. let p = rw (lt-ltb (before_lf u) (length u) h) at q in let z : n ≡ before_lf u = cc in rw (first_place [] u, lt-ltb (before_lf u) (length u) h, z))
+      (λ h. let p = rw (le-ltb (before_lf u) (length u) h) at q in cc)
+      (below (before_lf u) (length u))
 
-module _ (t : List ℕ) (at end : ℕ) (le : at ≤ end) (lt : end < length t) where
-  -- a byte other than LF is held, and an LF ends the line
-  pub line_goes_on : (get_or t end 0 ≡ 10 → ⊥) → whole (stretch t at end) (drop end t) ≡ whole (stretch t at (end + 1)) (drop (end + 1) t)
-  unfolding whole
-  line_goes_on ne = rw (drop-cons t end 0 lt, ne_eqb (get_or t end 0) 10 ne, stretch_more t at end le lt, add-one)
-
-  pub line_ends : get_or t end 0 ≡ 10 → first (whole (stretch t at end) (drop end t)) ≡ stretch t at (end + 1)
-  unfolding whole
-  line_ends e = rw (drop-cons t end 0 lt, eq-eqb (get_or t end 0) 10 e, stretch_more t at end le lt)
+  -- and where none is, there is no line
+  pub line_none : r ≡ None → [] ≡ first (whole [] u)
+  line_none e = ⊎_elim
+      (λ h. let p = rw (lt-ltb (before_lf u) (length u) h) at q in cc)
+      (λ h. rw (first_place [] u, le-ltb (before_lf u) (length u) h))
+      (below (before_lf u) (length u))
 
 -- ── the next line, and what follows it ──
 pub record Next (held t : List ℕ) (n : ℕ) : Type 0 where
@@ -95,16 +104,7 @@ pub step_none : (t : List ℕ) (at : ℕ) → length (line_at t at) ≡ 0 → (w
 unfolding line_at
 step_none t at z = no_line (drop at t) z
 
--- a line is the stretch up to where it ends
-pub line_stretch : (t : List ℕ) (at : ℕ) → stretch t at (at + length (line_at t at)) ≡ line_at t at
-unfolding line_at stretch
-line_stretch t at =
-    let u = drop at t in
-    let n = length (first (whole [] u)) in
-    let m : at + n - at ≡ n = omega arith in
-    ⊎_elim (λ w. rw (m, w.0)) (λ w. rw (m, first_is u w.0 w.1) (sym (ap first w.1.line))) (next_line [] u)
-
--- and ends in the text
+-- a line ends in the text
 pub line_within : (t : List ℕ) (at : ℕ) → at + length (line_at t at) ≤ max at (length t)
 unfolding line_at
 line_within t at =

@@ -6,45 +6,33 @@ ghost use Rattle.std.specs.Prelude.{◌≡◌, ◌+◌, ◌≤◌, max, length};
 ghost use Rattle.fields.specs.Parts.{stretch};
 ghost use Rattle.lines.specs.Splitting.{lent, line_at, to_front};
 
+pub use fields::LONGEST;
 use fields::Place;
 
-// The most bytes of a line that is in form, its LF among them. No more of a line is lent or held.
-pub const LONGEST: usize = 161;
-
-// Where the line that starts at a place ends, just past its LF; the place itself where no LF follows.
-fn line_end(text: &[u8], at: usize) -> usize
-    ensures { result ≡ at + length (line_at text.now at) }
-{
-    let mut end = at;
-    while end < text.len() {
-        if text[end] == b'\n' {
-            return end + 1;
-        }
-        end += 1;
-    }
-    at
-}
-
 // The line that starts at a place, up to and with its LF, a part of the text; an empty part where no LF follows.
+// kept: what may not change (the clause of `line_at`): an empty part, and no Option, where no LF follows
 pub fn line_at(text: &[u8], at: usize) -> &[u8]
     ensures line { result.now ≡ line_at text.now at }
     ensures within { at + length result.now ≤ max at (length text.now) }
 {
-    let to = line_end(text, at);
-    fields::part(text, Place { from: at, to })
+    let rest = fields::part(
+        text,
+        Place {
+            from: at,
+            to: text.len(),
+        },
+    );
+    match rest.iter().position(|b| *b == b'\n') {
+        Some(n) => &rest[..n + 1],
+        None => &rest[..0],
+    }
 }
 
 // What the gate is lent of a line: the line, or its first 161 bytes where it is longer, which then are no line in form.
 pub fn lent(line: &[u8]) -> &[u8]
     ensures { result.now ≡ lent line.now }
 {
-    fields::part(
-        line,
-        Place {
-            from: 0,
-            to: LONGEST,
-        },
-    )
+    &line[..line.len().min(LONGEST)]
 }
 
 // Moves the bytes from a place up to another to the front, 161 of them at most, and answers how many; every other byte stays.
@@ -54,10 +42,8 @@ pub fn keep_rest(text: &mut [u8], from: usize, to: usize) -> usize
     ensures few { result ≤ 161 }
 {
     let count = lent(fields::part(text, Place { from, to })).len();
-    let mut i = 0;
-    while i < count {
-        text[i] = text[from + i];
-        i += 1;
+    if count > 0 {
+        text.copy_within(from..from + count, 0);
     }
     count
 }

@@ -1,18 +1,20 @@
 -- How many bytes a packed text has, told from the sizes of its words: the tests that the code makes are the form's.
-use Rattle.std.specs.Prelude.{◌≡◌, refl, Bool, true, false, ◌&&◌, ◌||◌, ◌↔◌, List, [], ◌++◌, ℕ, ◌^◌, ◌≤◌, ◌<◌, leb, ltb, eqb, length, take, drop}
-use Rattle.std.proofs.Common.{sym, ap, ◌∙◌, subst, ⊎_elim, append-nil, arith, length-append, length-take, length-drop, drop_of_length-le, take_all, take_at, drop_at, drop-drop, le-leb, lt-ltb, ne_eqb, leb-true, ltb-true, eqb-true}
-use Rattle.std.proofs.Math.Bool.{and-eq-true_iff, or-true}
-use Rattle.std.proofs.lemmas.Bool.{eqb-false, not-true}
+use Rattle.std.specs.Prelude.{◌≡◌, refl, Bool, true, false, ◌&&◌, ◌||◌, ◌↔◌, List, [], ◌++◌, ℕ, zero, suc, ◌/◌, ◌%◌, ◌^◌, ◌≤◌, ◌<◌, leb, ltb, eqb, length, take, drop}
+use Rattle.std.proofs.Common.{sym, ap, ◌∙◌, subst, ⊎_elim, append-nil, arith, length-append, length-take, length-drop, drop_of_length-le, take_all, take_at, drop_at, drop-drop, le-leb, lt-ltb, le-ltb, ne_eqb, leb-true, ltb-true, eqb-true}
+use Rattle.std.proofs.Math.Bool.{and-eq-true_iff, and-false, or-true}
+use Rattle.std.proofs.Math.Nat.{pow-succ', pow-le-pow_right}
+use Rattle.std.proofs.lemmas.Bool.{eqb-false, lt-leb, not-true}
+use Rattle.std.specs.Int.{w32, to_le_bytes}
 use Rattle.laws.specs.Tests.{on, both}
 use Rattle.laws.specs.Tables.{All, all_map}
 use Rattle.rulebook.specs.Names.{word, Ident, ident_of}
 use Rattle.rulebook.specs.Lines.{identifier, mpid}
-use Rattle.fields.specs.Parts.{unnamed, unlisted, takes, every}
+use Rattle.fields.specs.Parts.{unnamed, unlisted, takes, every, has_form}
 use Rattle.fields.specs.Numbers.{below}
 use Rattle.fields.specs.Packing.{Solid, all_take, all_drop}
 use Rattle.fields.specs.Trips.{all_every}
 use Rattle.fields.specs.Values.{every_all, identifier_solid, mpid_solid, short_packed}
-use Rattle.packing.specs.Words.{spelt, unpacked, follows, tight}
+use Rattle.packing.specs.Words.{spelt, row, unpacked, follows, tight}
 use Rattle.packing.specs.Fitting.{fits}
 use Rattle.packing.specs.Spelling.{spelt_none, spelt_word, spelt_most, spelt_more, word_spelt, word_more, word_most, unpacked_ident}
 use Rattle.packing.specs.Exactly.{identifier_exactly, mpid_exactly}
@@ -106,3 +108,39 @@ mpid_told w h = same_test _ _ (
       let l : length (spelt 8 w) ≤ 4 = spelt_most 4 8 w lo in
       (mpid_exactly (record { code = w })).1 (spelt 8 w, short_packed (spelt 8 w) l ∙ rw (word_spelt 8 w h), spelt_more 3 8 w (omega arith) hi, l, every_all (takes (mpid unlisted)) (spelt 8 w) j.1),
 )
+
+-- a word of so many bytes has no zero before its last
+spelt_row : (m k w : ℕ) → m < k → 256 ^ m ≤ w → w < 256 ^ suc m → spelt k w ≡ row (suc m) w
+unfolding spelt row
+spelt_row m zero w l h g = absurd (omega arith)
+spelt_row zero (suc k) w l h g = let z : w / 256 ≡ 0 = omega arith in rw (ne_eqb w 0 (λ e. omega arith), z, spelt_none k)
+spelt_row (suc m) (suc k) w l h g =
+    let p = pow-succ' 256 m in
+    let q = pow-succ' 256 (suc m) in
+    let o : 256 ^ 0 ≤ 256 ^ suc m = pow-le-pow_right (omega arith) {i = 0} (omega arith) in
+    rw (ne_eqb w 0 (λ e. omega arith), spelt_row m k (w / 256) (omega arith) (omega arith) (omega arith))
+
+-- so where a test takes no 0, it takes four bytes of a word exactly if these are all that it has
+four_taken : (t : ℕ → Bool) (w : ℕ) → t 0 ≡ false → w < 256 ^ 4 → every t (row 4 w) ≡ (leb (256 ^ 3) w && every t (spelt 8 w))
+unfolding every row
+four_taken t w z h = ⊎_elim
+    (λ b. let e : w / 256 / 256 / 256 % 256 ≡ 0 = omega arith in rw (lt-leb (256 ^ 3) w b, e, z, and-false, and-false, and-false))
+    (λ b. rw (le-leb (256 ^ 3) w b, spelt_row 3 8 w (omega arith) b h))
+    (below w (256 ^ 3))
+
+-- the bytes of a word of four
+le_row : (w : ℕ) → to_le_bytes w32 w ≡ row 4 w
+unfolding row
+le_row w =
+    let two : w / 256 ^ 2 % 256 ≡ w / 256 / 256 % 256 = omega arith in
+    let three : w / 256 ^ 3 % 256 ≡ w / 256 / 256 / 256 % 256 = omega arith in
+    rw (two, three)
+
+-- an MPID's word is told by its four bytes
+pub mpid_bytes : (w : ℕ) → w < 256 ^ 4 → has_form (mpid unlisted) (to_le_bytes w32 w) ≡ fits (mpid (record { code = w }))
+unfolding has_form
+mpid_bytes w h = rw (mpid_told w (omega arith), lt-ltb w (256 ^ 4) h, ← four_taken (takes (mpid unlisted)) w refl h, ← le_row w)
+
+-- and a word with more bytes is none
+pub mpid_large : (w : ℕ) → 256 ^ 4 ≤ w → w < 256 ^ 8 → fits (mpid (record { code = w })) ≡ false
+mpid_large w h g = rw (mpid_told w g, le-ltb w (256 ^ 4) h, and-false)

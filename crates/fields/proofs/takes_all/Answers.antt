@@ -1,29 +1,14 @@
--- `fields::takes_all` meets its contract: what is left is taken whole exactly if all is.
-use mathlib.Core.Path.{sym, ◌∙◌}
-use Prim.Native.Nat.{◌<◌}
-use native.Mathlib.Numerals.{add-one}
-use native.Mathlib.Omega.{arith}
-use lib.ListN.{length, drop_of_length-le}
-use lib.Seq.{drop-cons}
-use Rattle.fields.specs.Parts.{every}
+-- `fields::takes_all` meets its contract: `every` recurses as `all` does.
+use Rattle.std.proofs.Common.{◌&&◌, refl, rules, tests, sym, ◌∙◌}
+use Rattle.std.specs.List.{list_all}
+use Rattle.std.proofs.lemmas.Iterator.{YieldsList-from_slice}
+use Rattle.std.proofs.lemmas.Iterator.Search.{all_from_yields_List}
+use Rattle.std.proofs.lemmas.List.Recursion.{same_from_clauses}
+use Rattle.fields.specs.Parts.{form, takes, every}
 use Rattle.fields.proofs.takes_all.Goals as goal
-
-pub loop-i-preserved : goal.loop-i-preserved
-unfolding every
-loop-i-preserved c =
-    let f = c.args.f.now in
-    let i = c.loop-i.i in
-    let h : i < length f = omega arith in
-    rw add-one (rw (drop-cons f i 0 h, sym c.takes_byte.ensures ∙ c.if-takes_byte.true) at c.loop-i.invariant)
-
-pub returns-else-takes_byte : goal.returns-else-takes_byte
-unfolding every
-returns-else-takes_byte c =
-    let f = c.args.f.now in
-    let i = c.loop-i.i in
-    let h : i < length f = omega arith in
-    rw (drop-cons f i 0 h, sym c.takes_byte.ensures ∙ c.if-takes_byte.false) at c.loop-i.invariant
 
 pub returns : goal.returns
 unfolding every
-returns c = rw (drop_of_length-le _ c.loop-i-test.false) at c.loop-i.invariant
+returns c =
+    let t = takes (form c.args.kind) in
+    all_from_yields_List t _ _ _ c.all.ensures.ran (YieldsList-from_slice c.args.f.now cc) (λ x b q k. search (rules, tests)) ∙ sym (same_from_clauses (every t) (list_all t) (λ x b. t x && b) refl (λ x xs. refl) (λ x xs. refl) c.args.f.now)

@@ -1,12 +1,28 @@
--- `lines::line_at` meets its contract: the line is the stretch up to where it ends.
-use mathlib.Core.Path.{ap, ◌∙◌}
-use lib.ListN.{length}
+-- `lines::line_at` meets its contract: the line ends with the first LF from the place on.
+use Rattle.std.proofs.Common.{eqb, rules, tests, ◌∙◌}
+use Rattle.std.proofs.lemmas.List.{take_rest}
+use Rattle.std.proofs.lemmas.Iterator.{YieldsList-from_slice}
+use Rattle.std.proofs.lemmas.Iterator.Search.{position_from_yields_List}
 use Rattle.fields.specs.Parts.{stretch}
-use Rattle.lines.proofs.Places.{line_stretch, line_within}
+use Rattle.lines.specs.Splitting.{line_at}
+use Rattle.lines.proofs.Places.{line_some, line_none, line_within}
 use Rattle.lines.proofs.line_at.Goals as goal
 
-pub returns : goal.returns
-returns c =
-    let t = c.args.text.now in
-    let at = c.args.at in
-    let e = c.part.ensures ∙ ap (stretch t at) c.line_end-to.ensures ∙ line_stretch t at in record { line = e; within = rw (ap length e) (line_within t at) }
+pub returns-in-Some-clause-line : goal.returns-in-Some-clause-line
+unfolding line_at stretch
+returns-in-Some-clause-line c =
+    let u = c.part-rest.result.now in
+    let e = c.part-rest.ensures ∙ take_rest c.args.text.now c.args.at in
+    let q = position_from_yields_List (λ b. eqb b 10) _ _ c.position.result c.position.ensures.ran (YieldsList-from_slice u cc) (λ x b q k. search (rules, tests)) in
+    rw (← e) (line_some u c.position.result q c.in-Some.n c.in-Some.is)
+
+pub returns-in-None-clause-line : goal.returns-in-None-clause-line
+unfolding line_at stretch
+returns-in-None-clause-line c =
+    let u = c.part-rest.result.now in
+    let e = c.part-rest.ensures ∙ take_rest c.args.text.now c.args.at in
+    let q = position_from_yields_List (λ b. eqb b 10) _ _ c.position.result c.position.ensures.ran (YieldsList-from_slice u cc) (λ x b q k. search (rules, tests)) in
+    rw (← e) (line_none u c.position.result q c.in-None.is)
+
+pub returns-in-Some-clause-within : goal.returns-in-Some-clause-within
+returns-in-Some-clause-within c = rw (returns-in-Some-clause-line c) (line_within c.args.text.now c.args.at)

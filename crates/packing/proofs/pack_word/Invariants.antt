@@ -4,8 +4,6 @@ use lib.ListN.{length, drop}
 use Rattle.rulebook.specs.Names.{word}
 use Rattle.packing.proofs.pack_word.Given as goal
 
-abbrev pub invariant-loop-i : goal.invariant-loop-i
-invariant-loop-i l = (l.i ≤ length l.text) × (l.w ≡ word (drop l.i l.text)) × (l.w < 256 ^ (8 - l.i))
-
-abbrev pub decreases-loop-i : goal.decreases-loop-i
-decreases-loop-i l = l.i
+-- the bytes that were passed are the last
+abbrev pub invariant-loop-b : goal.invariant-loop-b
+invariant-loop-b l = let left = length l.text - length l.yielded in (length l.yielded ≤ length l.text) × (l.w ≡ word (drop left l.text)) × (l.w < 256 ^ (8 - left))

@@ -1,5 +1,5 @@
 -- a tenth is smaller
-use Rattle.fields.proofs.+put_digits.Given as goal
+use Rattle.fields.proofs.Writer.+put_digits.Given as goal
 
 abbrev pub decreases-put_digits : goal.decreases-put_digits
 decreases-put_digits l = l.n
