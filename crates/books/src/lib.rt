@@ -1,5 +1,6 @@
-// The lent words: where each thing stands. What they say and what edits write is in specs/; docs/STATE.md has the map.
-// There is no function here.
+// The lent words: where each thing stands, and what is read from them and set in them together. What they say and what edits write is in
+// specs/; docs/STATE.md has the map. There is no function here.
+// kept: a rule of the project (no heap, lent words): kinds, sides, marks and numbers are words in rows, as docs/STATE.md has them
 #![tactic(auto)]
 
 // "up to 64 MPIDs and 256 symbols", and the most places that a table has.
@@ -135,3 +136,27 @@ pub const SELL: u64 = 83;
 
 // The most that a limit, a total or gross of both may be.
 pub const CEILING: u64 = 4_000_000_000_000_000_000;
+
+// A group's totals, as its closing line shows them.
+#[derive(Clone, Copy, PartialEq, Eq)]
+pub struct Totals {
+    pub mpid: u64,
+    pub traded_buys: u64,
+    pub traded_sells: u64,
+    pub open_buys: u64,
+    pub open_sells: u64,
+    pub blocked: bool,
+}
+
+// What a G sets for its group.
+#[derive(Clone, Copy, PartialEq, Eq)]
+pub struct Terms {
+    pub gross_trade: u64,
+    pub net_trade: u64,
+    pub gross_open: u64,
+    pub net_open: u64,
+    pub gross_both: u64,
+    pub net_both: u64,
+    pub max_size: u64,
+    pub short_sales: bool,
+}

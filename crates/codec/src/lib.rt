@@ -1,17 +1,20 @@
 // The day's lines: each read into its record, and records, answers and closing lines written.
 #![tactic(auto)]
 
-ghost use Rattle.std.specs.Prelude.{◌≡◌, cond, ◌-◌, eqb, length};
-ghost use Rattle.codec.specs.Readings.{letter_of, read_as, read_line, reading, to_group, to_symbol, to_open, to_new, to_change, to_cancel, to_block, to_unblock, to_quote, to_fill, to_reduction, to_cancel_refused};
+ghost use Rattle.std.specs.Prelude.{◌≡◌, List, replicate, ℕ, ◌-◌, ◌^◌, ◌<◌, eqb, length};
+ghost use Rattle.std.specs.Fn.{FnOnceReturnsAtMut};
+ghost use Rattle.codec.specs.Readings.{letter_of, read_line, reading};
 ghost use Rattle.codec.specs.Writing.{fields_of, record_line};
-ghost use Rattle.fields.specs.Out.{out, put_fields, put_line, left, wrote};
+ghost use Rattle.fields.specs.Out.{out, cursor, Leaves, put_fields, put_line, left, handed, wrote};
 
-use fields::{Place, Written};
+use fields::{Parsed, Place, WriteError, Writer};
 
 // The most bytes of a line, its LF among them.
 const LINE: usize = 161;
 
 // A line's record: its kind with its own numbers, and where its texts stand in the line.
+// kept: what may not change (`record_of`, and the theorems on readings): Broken is the rulebook's `broken`, and a side or a yes or no is its letter
+// kept: what may not change (`read` answers a reading, and each writer takes any line with any reading): so no struct of the two
 #[derive(Clone, Copy)]
 pub enum Reading {
     Broken,
@@ -84,212 +87,129 @@ pub enum Reading {
     },
 }
 
-// The reading, if its last field ends before the line's last byte.
-fn whole(r: Reading, to: usize, line: &[u8]) -> Reading
-    ensures { result ≡ cond (eqb (length line.now - to) 1) r Reading.Broken }
-{
-    if line.len() <= to {
-        return Reading::Broken;
+// A line as it is read: where its next field begins.
+#[derive(Drop)]
+struct Reader<'a> {
+    line: &'a [u8],
+    at: usize,
+}
+
+impl<'a> Reader<'a> {
+    // The next field, a text: where it stands.
+    fn text<F: FnOnce(&[u8], usize) -> Place>(&mut self, read: F) -> Place
+        requires { F.IsAlwaysCallable read }
+        ensures same_line { self.new.line ≡ self.old.line }
+        ensures next { self.new.at ≡ result.to }
+        ensures said { F.post read self.old.line self.old.at result }
+    {
+        let place = read(self.line, self.at);
+        self.at = place.to;
+        place
     }
-    if line.len() - to == 1 {
-        return r;
+
+    // The next field, a number or a letter: what it says.
+    fn value<T, F: FnOnce(&[u8], usize) -> Parsed<T>>(&mut self, read: F) -> T
+        requires { F.IsAlwaysCallable read }
+        ensures same_line { self.new.line ≡ self.old.line }
+        ensures said { F.post read self.old.line self.old.at (record { value = result; to = self.new.at }) }
+    {
+        let field = read(self.line, self.at);
+        self.at = field.to;
+        field.value
+    }
+
+    // Whether the last field ended before the line's last byte.
+    fn is_at_end(&self) -> bool
+        ensures { result ≡ eqb (length self.now.line.now - self.now.at) 1 }
+    {
+        self.line.len().saturating_sub(self.at) == 1
+    }
+}
+
+// The record of a line of at most 160 bytes and its LF.
+#[tactic(auto, unfolding(crate::specs::Readings::read_as, crate::specs::Readings::read_line))]
+fn read_line(line: &[u8]) -> Reading
+    ensures { result ≡ read_line line.now }
+{
+    let mut next = Reader { line, at: 1 };
+    let rec = match fields::byte_at(line, 0) {
+        b'G' => Reading::Group {
+            mpid: next.text(fields::mpid_at),
+            gross_trade: next.value(fields::limit_at),
+            net_trade: next.value(fields::limit_at),
+            gross_open: next.value(fields::limit_at),
+            net_open: next.value(fields::limit_at),
+            gross_both: next.value(fields::limit_at),
+            net_both: next.value(fields::limit_at),
+            max_size: next.value(fields::size_at),
+            short_sales: next.value(fields::yes_no_at),
+        },
+        b'S' => Reading::Symbol {
+            id: next.value(fields::serial_at),
+        },
+        b'O' => Reading::Open,
+        b'N' => Reading::New {
+            name: next.text(fields::identifier_at),
+            mpid: next.text(fields::mpid_at),
+            symbol: next.value(fields::serial_at),
+            side: next.value(fields::side_at),
+            size: next.value(fields::size_at),
+            price: next.value(fields::price_at),
+        },
+        b'M' => Reading::Change {
+            name: next.text(fields::identifier_at),
+            mpid: next.text(fields::mpid_at),
+            target: next.text(fields::identifier_at),
+            size: next.value(fields::size_at),
+            price: next.value(fields::price_at),
+        },
+        b'C' => Reading::Cancel {
+            name: next.text(fields::identifier_at),
+            mpid: next.text(fields::mpid_at),
+            target: next.text(fields::identifier_at),
+        },
+        b'B' => Reading::Block {
+            name: next.text(fields::identifier_at),
+            mpid: next.text(fields::mpid_at),
+        },
+        b'R' => Reading::Unblock {
+            name: next.text(fields::identifier_at),
+            mpid: next.text(fields::mpid_at),
+        },
+        b'Q' => Reading::Quote {
+            number: next.value(fields::serial_at),
+            symbol: next.value(fields::serial_at),
+            bid: next.value(fields::quoted_at),
+            offer: next.value(fields::quoted_at),
+        },
+        b'F' => Reading::Fill {
+            number: next.value(fields::serial_at),
+            mpid: next.text(fields::mpid_at),
+            target: next.text(fields::identifier_at),
+            size: next.value(fields::size_at),
+            price: next.value(fields::price_at),
+        },
+        b'D' => Reading::Reduction {
+            number: next.value(fields::serial_at),
+            mpid: next.text(fields::mpid_at),
+            target: next.text(fields::identifier_at),
+            size: next.value(fields::size_at),
+        },
+        b'H' => Reading::CancelRefused {
+            number: next.value(fields::serial_at),
+            mpid: next.text(fields::mpid_at),
+            target: next.text(fields::identifier_at),
+        },
+        _ => return Reading::Broken,
+    };
+    if next.is_at_end() {
+        return rec;
     }
     Reading::Broken
 }
 
-fn read_group(line: &[u8]) -> Reading
-    ensures { result ≡ read_as to_group line.now }
-{
-    let mpid = fields::mpid_at(line, 1);
-    let gross_trade = fields::limit_at(line, mpid.to);
-    let net_trade = fields::limit_at(line, gross_trade.to);
-    let gross_open = fields::limit_at(line, net_trade.to);
-    let net_open = fields::limit_at(line, gross_open.to);
-    let gross_both = fields::limit_at(line, net_open.to);
-    let net_both = fields::limit_at(line, gross_both.to);
-    let max_size = fields::size_at(line, net_both.to);
-    let short_sales = fields::yes_no_at(line, max_size.to);
-    let r = Reading::Group {
-        mpid,
-        gross_trade: gross_trade.value,
-        net_trade: net_trade.value,
-        gross_open: gross_open.value,
-        net_open: net_open.value,
-        gross_both: gross_both.value,
-        net_both: net_both.value,
-        max_size: max_size.value,
-        short_sales: short_sales.value,
-    };
-    whole(r, short_sales.to, line)
-}
-
-fn read_symbol(line: &[u8]) -> Reading
-    ensures { result ≡ read_as to_symbol line.now }
-{
-    let id = fields::serial_at(line, 1);
-    let r = Reading::Symbol { id: id.value };
-    whole(r, id.to, line)
-}
-
-fn read_new(line: &[u8]) -> Reading
-    ensures { result ≡ read_as to_new line.now }
-{
-    let name = fields::identifier_at(line, 1);
-    let mpid = fields::mpid_at(line, name.to);
-    let symbol = fields::serial_at(line, mpid.to);
-    let side = fields::side_at(line, symbol.to);
-    let size = fields::size_at(line, side.to);
-    let price = fields::price_at(line, size.to);
-    let r = Reading::New {
-        name,
-        mpid,
-        symbol: symbol.value,
-        side: side.value,
-        size: size.value,
-        price: price.value,
-    };
-    whole(r, price.to, line)
-}
-
-fn read_change(line: &[u8]) -> Reading
-    ensures { result ≡ read_as to_change line.now }
-{
-    let name = fields::identifier_at(line, 1);
-    let mpid = fields::mpid_at(line, name.to);
-    let target = fields::identifier_at(line, mpid.to);
-    let size = fields::size_at(line, target.to);
-    let price = fields::price_at(line, size.to);
-    let r = Reading::Change {
-        name,
-        mpid,
-        target,
-        size: size.value,
-        price: price.value,
-    };
-    whole(r, price.to, line)
-}
-
-fn read_cancel(line: &[u8]) -> Reading
-    ensures { result ≡ read_as to_cancel line.now }
-{
-    let name = fields::identifier_at(line, 1);
-    let mpid = fields::mpid_at(line, name.to);
-    let target = fields::identifier_at(line, mpid.to);
-    let r = Reading::Cancel { name, mpid, target };
-    whole(r, target.to, line)
-}
-
-fn read_block(line: &[u8]) -> Reading
-    ensures { result ≡ read_as to_block line.now }
-{
-    let name = fields::identifier_at(line, 1);
-    let mpid = fields::mpid_at(line, name.to);
-    let r = Reading::Block { name, mpid };
-    whole(r, mpid.to, line)
-}
-
-fn read_unblock(line: &[u8]) -> Reading
-    ensures { result ≡ read_as to_unblock line.now }
-{
-    let name = fields::identifier_at(line, 1);
-    let mpid = fields::mpid_at(line, name.to);
-    let r = Reading::Unblock { name, mpid };
-    whole(r, mpid.to, line)
-}
-
-fn read_quote(line: &[u8]) -> Reading
-    ensures { result ≡ read_as to_quote line.now }
-{
-    let number = fields::serial_at(line, 1);
-    let symbol = fields::serial_at(line, number.to);
-    let bid = fields::quoted_at(line, symbol.to);
-    let offer = fields::quoted_at(line, bid.to);
-    let r = Reading::Quote {
-        number: number.value,
-        symbol: symbol.value,
-        bid: bid.value,
-        offer: offer.value,
-    };
-    whole(r, offer.to, line)
-}
-
-fn read_fill(line: &[u8]) -> Reading
-    ensures { result ≡ read_as to_fill line.now }
-{
-    let number = fields::serial_at(line, 1);
-    let mpid = fields::mpid_at(line, number.to);
-    let target = fields::identifier_at(line, mpid.to);
-    let size = fields::size_at(line, target.to);
-    let price = fields::price_at(line, size.to);
-    let r = Reading::Fill {
-        number: number.value,
-        mpid,
-        target,
-        size: size.value,
-        price: price.value,
-    };
-    whole(r, price.to, line)
-}
-
-fn read_reduction(line: &[u8]) -> Reading
-    ensures { result ≡ read_as to_reduction line.now }
-{
-    let number = fields::serial_at(line, 1);
-    let mpid = fields::mpid_at(line, number.to);
-    let target = fields::identifier_at(line, mpid.to);
-    let size = fields::size_at(line, target.to);
-    let r = Reading::Reduction {
-        number: number.value,
-        mpid,
-        target,
-        size: size.value,
-    };
-    whole(r, size.to, line)
-}
-
-fn read_cancel_refused(line: &[u8]) -> Reading
-    ensures { result ≡ read_as to_cancel_refused line.now }
-{
-    let number = fields::serial_at(line, 1);
-    let mpid = fields::mpid_at(line, number.to);
-    let target = fields::identifier_at(line, mpid.to);
-    let r = Reading::CancelRefused {
-        number: number.value,
-        mpid,
-        target,
-    };
-    whole(r, target.to, line)
-}
-
-fn read_open(line: &[u8]) -> Reading
-    ensures { result ≡ read_as to_open line.now }
-{
-    whole(Reading::Open, 1, line)
-}
-
-// The record of a line of at most 160 bytes and its LF.
-fn read_line(line: &[u8]) -> Reading
-    ensures { result ≡ read_line line.now }
-{
-    let kind = fields::byte_at(line, 0);
-    match kind {
-        b'G' => read_group(line),
-        b'S' => read_symbol(line),
-        b'O' => read_open(line),
-        b'N' => read_new(line),
-        b'M' => read_change(line),
-        b'C' => read_cancel(line),
-        b'B' => read_block(line),
-        b'R' => read_unblock(line),
-        b'Q' => read_quote(line),
-        b'F' => read_fill(line),
-        b'D' => read_reduction(line),
-        b'H' => read_cancel_refused(line),
-        _ => Reading::Broken,
-    }
-}
-
 // The record of a lent line with its LF; Broken where the bytes break a form.
+#[tactic(auto, unfolding(crate::specs::Readings::reading))]
 pub fn read(line: &[u8]) -> Reading
     ensures { result ≡ reading line.now }
 {
@@ -300,6 +220,7 @@ pub fn read(line: &[u8]) -> Reading
 }
 
 // The letter of a reading's kind.
+// kept: what may not change (docs/PROMISES.md names `codec::kind_letter`)
 pub fn kind_letter(r: Reading) -> u8
     ensures { result ≡ letter_of r }
 {
@@ -321,11 +242,11 @@ pub fn kind_letter(r: Reading) -> u8
 }
 
 // A record's fields, each after a tab.
-fn put_fields(to: &mut [u8], at: usize, line: &[u8], rec: Reading) -> usize
-    ensures { out to.new result ≡ put_fields (out to.old at) (fields_of line.now rec) }
+fn put_fields(to: &mut Writer, line: &[u8], rec: Reading)
+    ensures { Leaves to.old to.new (put_fields (cursor to.old) (fields_of line.now rec)) }
 {
     match rec {
-        Reading::Broken => at,
+        Reading::Broken | Reading::Open => {}
         Reading::Group {
             mpid,
             gross_trade,
@@ -337,15 +258,14 @@ fn put_fields(to: &mut [u8], at: usize, line: &[u8], rec: Reading) -> usize
             max_size,
             short_sales,
         } => {
-            let a = fields::put_text(to, at, line, mpid);
-            let b = fields::put_numbers(to, a, gross_trade, net_trade);
-            let c = fields::put_numbers(to, b, gross_open, net_open);
-            let d = fields::put_numbers(to, c, gross_both, net_both);
-            let e = fields::put_number(to, d, max_size);
-            fields::put_letter(to, e, short_sales)
+            to.put_text(line, mpid);
+            to.put_numbers(gross_trade, net_trade);
+            to.put_numbers(gross_open, net_open);
+            to.put_numbers(gross_both, net_both);
+            to.put_number(max_size);
+            to.put_letter(short_sales);
         }
-        Reading::Symbol { id } => fields::put_number(to, at, id),
-        Reading::Open => at,
+        Reading::Symbol { id } => to.put_number(id),
         Reading::New {
             name,
             mpid,
@@ -354,10 +274,10 @@ fn put_fields(to: &mut [u8], at: usize, line: &[u8], rec: Reading) -> usize
             size,
             price,
         } => {
-            let a = fields::put_texts(to, at, line, name, mpid);
-            let b = fields::put_number(to, a, symbol);
-            let c = fields::put_letter(to, b, side);
-            fields::put_numbers(to, c, size, price)
+            to.put_texts(line, name, mpid);
+            to.put_number(symbol);
+            to.put_letter(side);
+            to.put_numbers(size, price);
         }
         Reading::Change {
             name,
@@ -366,24 +286,25 @@ fn put_fields(to: &mut [u8], at: usize, line: &[u8], rec: Reading) -> usize
             size,
             price,
         } => {
-            let a = fields::put_texts(to, at, line, name, mpid);
-            let b = fields::put_text(to, a, line, target);
-            fields::put_numbers(to, b, size, price)
+            to.put_texts(line, name, mpid);
+            to.put_text(line, target);
+            to.put_numbers(size, price);
         }
         Reading::Cancel { name, mpid, target } => {
-            let a = fields::put_texts(to, at, line, name, mpid);
-            fields::put_text(to, a, line, target)
+            to.put_texts(line, name, mpid);
+            to.put_text(line, target);
         }
-        Reading::Block { name, mpid } => fields::put_texts(to, at, line, name, mpid),
-        Reading::Unblock { name, mpid } => fields::put_texts(to, at, line, name, mpid),
+        Reading::Block { name, mpid } | Reading::Unblock { name, mpid } => {
+            to.put_texts(line, name, mpid);
+        }
         Reading::Quote {
             number,
             symbol,
             bid,
             offer,
         } => {
-            let a = fields::put_numbers(to, at, number, symbol);
-            fields::put_numbers(to, a, bid, offer)
+            to.put_numbers(number, symbol);
+            to.put_numbers(bid, offer);
         }
         Reading::Fill {
             number,
@@ -392,9 +313,9 @@ fn put_fields(to: &mut [u8], at: usize, line: &[u8], rec: Reading) -> usize
             size,
             price,
         } => {
-            let a = fields::put_number(to, at, number);
-            let b = fields::put_texts(to, a, line, mpid, target);
-            fields::put_numbers(to, b, size, price)
+            to.put_number(number);
+            to.put_texts(line, mpid, target);
+            to.put_numbers(size, price);
         }
         Reading::Reduction {
             number,
@@ -402,17 +323,17 @@ fn put_fields(to: &mut [u8], at: usize, line: &[u8], rec: Reading) -> usize
             target,
             size,
         } => {
-            let a = fields::put_number(to, at, number);
-            let b = fields::put_texts(to, a, line, mpid, target);
-            fields::put_number(to, b, size)
+            to.put_number(number);
+            to.put_texts(line, mpid, target);
+            to.put_number(size);
         }
         Reading::CancelRefused {
             number,
             mpid,
             target,
         } => {
-            let a = fields::put_number(to, at, number);
-            fields::put_texts(to, a, line, mpid, target)
+            to.put_number(number);
+            to.put_texts(line, mpid, target);
         }
     }
 }
@@ -420,16 +341,30 @@ fn put_fields(to: &mut [u8], at: usize, line: &[u8], rec: Reading) -> usize
 fn put_record(to: &mut [u8], line: &[u8], rec: Reading) -> usize
     ensures { out to.new result ≡ put_line (out to.old 0) (letter_of rec) (fields_of line.now rec) }
 {
-    let a = fields::put(to, 0, kind_letter(rec));
-    let b = put_fields(to, a, line, rec);
-    fields::put(to, b, b'\n')
+    let mut writer = Writer { to, at: 0 };
+    writer.put(kind_letter(rec));
+    put_fields(&mut writer, line, rec);
+    writer.put(b'\n');
+    writer.at
+}
+
+// Writes what `put` puts into a buffer of so many bytes, whole or not at all: it is put into memory of its own, and handed over from there.
+pub fn write_whole<const MOST: usize, F: FnOnce(&mut [u8]) -> usize>(
+    put: F,
+    to: &mut [u8],
+) -> Result<usize, WriteError>
+    requires small { MOST < 2 ^ 63 }
+    requires callable { F.IsAlwaysCallable put }
+    ensures { (d : List ℕ) × (n : ℕ) × FnOnceReturnsAtMut F.FnOnce put (replicate MOST 0) n d × (left to.new result ≡ handed d n to.old) }
+{
+    let mut bytes = [0u8; MOST];
+    let count = put(&mut bytes);
+    fields::hand_over(&bytes, count, to)
 }
 
 // Writes a record's line, from its reading and the line that its texts stand in.
-pub fn write_record(line: &[u8], rec: Reading, to: &mut [u8]) -> Written
+pub fn write_record(line: &[u8], rec: Reading, to: &mut [u8]) -> Result<usize, WriteError>
     ensures { left to.new result ≡ wrote 161 (record_line line.now rec) to.old }
 {
-    let mut whole_line = [0u8; LINE];
-    let n = put_record(&mut whole_line, line, rec);
-    fields::hand_over(&whole_line, n, to)
+    write_whole::<LINE, _>(|buffer| put_record(buffer, line, rec), to)
 }

@@ -1,7 +1,0 @@
--- `codec::read_cancel` meets its contract: field after field, as the forms say.
-use Rattle.codec.specs.Readings.{read_as}
-use Rattle.codec.proofs.read_cancel.Goals as goal
-
-pub returns : goal.returns
-unfolding read_as
-returns c = rw (c.whole.ensures, c.identifier_at-target.ensures, c.mpid_at-mpid.ensures, c.identifier_at-name.ensures)
