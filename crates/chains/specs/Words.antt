@@ -1,10 +1,13 @@
 -- Rows of words in a list, the tests that one begins with the words of another or of a key, a hash of those words, and what a walk along the chain of
 -- their slot tells.
-use Rattle.std.specs.Prelude.{◌≡◌, ℕ, zero, suc, ◌+◌, ◌*◌, ◌/◌, ◌%◌, ◌^◌, ◌<◌, ◌≤◌, Bool, true, false, not, List, length, nat_eq, nat_le, slice_index, slice_index_or, refl}
+use Rattle.std.specs.Prelude.{◌≡◌, ℕ, zero, suc, ◌+◌, ◌*◌, ◌/◌, ◌%◌, ◌^◌, ◌<◌, ◌≤◌, Bool, true, false, not, List, length, nat_eq, nat_le, slice_index, slice_index_or, slice_range, refl}
 use Rattle.std.proofs.Math.Path.{sym, ap}
-use Rattle.std.proofs.Common.{ap₂, ◌∙◌, arith, mul-le-mul}
+use Rattle.std.proofs.Common.{ap₂, ◌∙◌, arith, mul-le-mul, zero-add}
 use Rattle.std.proofs.lemmas.Bool.{false≢true}
 use Rattle.std.proofs.Math.Decide.{dec_lt}
+use Rattle.std.proofs.lemmas.List.{ext_get_or}
+use Rattle.std.proofs.lemmas.List.Edits.{length-between, get_or-between}
+use Rattle.std.specs.Cmp.Lexicographic.{pointwise, same_text, other_text}
 use borrow.Author.Tests.{eqb-true, eq-eqb, le-leb, lt-leb}
 use Rattle.laws.specs.Tests.{on}
 use Rattle.laws.specs.Numbered.{least, least_at, least_none, every, every_each, every_yes, every_no, apart, apart_each}
@@ -58,14 +61,6 @@ unfoldable pub blend : List ℕ → ℕ → ℕ → ℕ
 blend m b zero = 0
 blend m b (suc k) = mixed (blend m b k) (slice_index m (b + k))
 
-pub blend_none : (m : List ℕ) (b : ℕ) → blend m b 0 ≡ 0
-unfolding blend
-blend_none m b = refl
-
-pub blend_more : (m : List ℕ) (b k : ℕ) → blend m b (suc k) ≡ mixed (blend m b k) (slice_index m (b + k))
-unfolding blend
-blend_more m b k = refl
-
 -- any function of the words that is below half would do
 unfoldable pub hash_words : List ℕ → ℕ → ℕ → ℕ
 hash_words m b n = mixed (blend m b n) 0 / half
@@ -91,6 +86,27 @@ same_blend m a l b (suc k) h = ap₂ mixed (same_blend m a l b k (λ i lt. h i (
 same_hash : (m : List ℕ) (a : ℕ) (l : List ℕ) (b n : ℕ) → ((k : ℕ) → k < n → slice_index m (a + k) ≡ slice_index l (b + k)) → hash_words m a n ≡ hash_words l b n
 unfolding hash_words
 same_hash m a l b n h = ap (λ (x : ℕ). mixed x 0 / half) (same_blend m a l b n h)
+
+-- the words of a part of a list: they are those from its first on, and have their hash
+module _ (m : List ℕ) (b n : ℕ) (room : b + n ≤ length m) where
+  part_word : (k : ℕ) → k < n → slice_index (slice_range m b (b + n)) k ≡ slice_index m (b + k)
+  part_word k lt = get_or-between m b (b + n) k 0 (omega arith)
+
+  part_length : length (slice_range m b (b + n)) ≡ n
+  part_length = length-between m b (b + n) room ∙ omega arith
+
+  pub part_hash : {l : List ℕ} → l ≡ slice_range m b (b + n) → hash_words l 0 (length l) ≡ hash_words m b n
+  part_hash e = rw (e, part_length) (same_hash (slice_range m b (b + n)) 0 m b n (λ k lt. simp zero-add (part_word k lt)))
+
+-- two parts are compared by their words
+pub parts_same : (m : List ℕ) (a : ℕ) (l : List ℕ) (b n : ℕ) → a + n ≤ length m → b + n ≤ length l → pointwise nat_eq (slice_range m a (a + n)) (slice_range l b (b + n)) ≡ same_words m a l b n
+parts_same m a l b n p q = let x = slice_range m a (a + n) in let y = slice_range l b (b + n) in
+    on (λ t. pointwise nat_eq x y ≡ t → t ≡ same_words m a l b n) (pointwise nat_eq x y)
+    (λ z e. sym (every_yes _ n (λ k lt. eq-eqb _ _ (sym (part_word m a n p k lt) ∙ ap (λ t. slice_index t k) (same_text x y (sym e)) ∙ part_word l b n q k lt))))
+    (λ z e. on (λ t. same_words m a l b n ≡ t → false ≡ t) (same_words m a l b n)
+    (λ z h. absurd (other_text x y (sym e) (ext_get_or 0 x y (part_length m a n p ∙ sym (part_length l b n q))
+    (λ k lt. let less : k < n = omega (arith, part_length m a n p) in part_word m a n p k less ∙ eqb-true _ _ (every_each _ n h k less) ∙ sym (part_word l b n q k less)))))
+    (λ z h. refl) refl) refl
 
 -- and so has a row that begins with them
 pub begins_alike : (m : List ℕ) (at width : ℕ) (l : List ℕ) (b words : ℕ) → Alike (hash_row m at width words) (begins m at width l b words) (hash_words l b words)

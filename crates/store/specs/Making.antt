@@ -1,9 +1,9 @@
 -- Document 01, "Making a fresh state", and the totals that a closing line shows.
-use Rattle.std.specs.Prelude.{◌≡◌, refl, Bool, true, cond, List, [], ◌∷◌, ℕ, zero, suc, ◌+◌, ◌≤◌, ◌<◌, ltb, eqb, length, get_or, set, replicate}
-use Rattle.std.proofs.Common.{sym, ap, ◌∙◌, subst, arith, get_or-set_same, get_or-set_other, ltb-true, eqb-true}
-use Rattle.std.proofs.Math.Option.{Option, none, some, map}
+use Prim.{Unit, tt}
+use Rattle.std.specs.Prelude.{◌≡◌, refl, Bool, true, cond, List, [], ◌∷◌, ℕ, zero, suc, ◌≤◌, ◌<◌, ltb, length, get_or, replicate, Option, Some, None, Result, Ok, Err}
+use Rattle.std.proofs.Common.{sym, ap, ◌∙◌, subst, arith, ltb-true}
+use Rattle.std.proofs.Math.Option.{Option as OptionOf, none, some, map}
 use Rattle.std.proofs.lemmas.List.{length-replicate}
-use Rattle.std.proofs.lemmas.Bool.{eqb-false}
 use Rattle.laws.specs.Tests.{on}
 use Rattle.laws.specs.Rows.{Sheet}
 use Rattle.laws.specs.Numbered.{those, numbered, get_elem_numbered, those_none}
@@ -16,37 +16,30 @@ use Rattle.books.specs.Layout.{least_words, room_for, groups, opened_at, last_at
 use Rattle.books.specs.View.{flag, head_in, group_of, asked_of, symbol_of, opens_of, order_of, orders_in, books_in, rows_of, view}
 use Rattle.books.proofs.Refining.{books_same, room_most}
 use Rattle.books.specs.Rules.{Valid}
-use Rattle.store.specs.declared.Made.{Made}
-use Rattle.store.specs.declared.Made.TheVariants.{Done, TooShort}
-use Rattle.store.specs.declared.Closing.{Closing}
-use Rattle.store.specs.declared.Closing.TheVariants.{Totals, Unlisted}
+use Rattle.books.specs.declared.Totals.{Totals}
+use Rattle.store.specs.declared.MakeError.{MakeError}
+use Rattle.store.specs.declared.MakeError.TheVariants.{TooShort}
 
 -- ── a fresh state ──
 -- the number of each answer: 23 where the memory is too short
-abbrev pub made_number : Made → ℕ
-made_number Done = 0
-made_number TooShort = 23
+abbrev pub make_number : MakeError → ℕ
+make_number TooShort = 23
+
+abbrev pub made_number : Result (Unit {0}) MakeError → ℕ
+made_number (Ok x) = 0
+made_number (Err e) = make_number e
 
 -- "23 alone; otherwise every byte of the lent memory is set"
 abbrev pub too_short : List ℕ → Bool
 too_short m = ltb (length m) least_words
 
 unfoldable pub made : List ℕ → ℕ
-made m = cond (too_short m) (made_number TooShort) (made_number Done)
+made m = cond (too_short m) (made_number (Err TooShort)) (made_number (Ok tt))
 
 unfoldable pub made_words : List ℕ → List ℕ
 made_words m = cond (too_short m) m (replicate (length m) 0)
 
--- words that are all 0
-pub all_zero : (m : List ℕ) → ((k : ℕ) → k < length m → get_or m k 0 ≡ 0) → m ≡ replicate (length m) 0
-all_zero [] h = refl
-all_zero (v ∷ m) h = λ i. h 0 (omega arith) i ∷ all_zero m (λ k lt. h (suc k) (omega arith)) i
-
--- one word more set to 0
-pub zero_more : (m : List ℕ) (i : ℕ) → i < length m → ((k : ℕ) → k < i → get_or m k 0 ≡ 0) → (k : ℕ) → k < i + 1 → get_or (set m i 0) k 0 ≡ 0
-zero_more m i lt h k l = on (λ b. eqb k i ≡ b → get_or (set m i 0) k 0 ≡ 0) (eqb k i)
-    (λ z e. ap (λ (j : ℕ). get_or (set m i 0) j 0) (eqb-true k i e) ∙ get_or-set_same m i 0 0 lt) (λ z e. let ne = eqb-false k i e in get_or-set_other m i k 0 0 ne ∙ h k (omega (arith, ne))) refl
-
+-- a word of so many zeros
 zero_at : (n k : ℕ) → ◌≡◌ {A = ℕ} (get_or (replicate n 0) k 0) 0
 zero_at zero k = refl
 zero_at (suc n) zero = refl
@@ -76,21 +69,22 @@ fresh_valid n h = record {
 
 -- ── a closing line's totals ──
 -- the group at a place in listing order: its row's words
-abbrev pub totals_in : Sheet → ℕ → Closing
-totals_in S i = let r = S groups i in Totals (r mpid_at) (r traded_buys_at) (r traded_sells_at) (r open_buys_at) (r open_sells_at) (flag (r blocked_at))
+abbrev pub totals_in : Sheet → ℕ → Totals
+totals_in S i = let r = S groups i in
+    record { mpid = r mpid_at; traded_buys = r traded_buys_at; traded_sells = r traded_sells_at; open_buys = r open_buys_at; open_sells = r open_sells_at; blocked = flag (r blocked_at) }
 
-unfoldable pub totals_of : Sheet → ℕ → Closing
-totals_of S i = cond (ltb i (head_in S groups_at)) (totals_in S i) Unlisted
+unfoldable pub totals_of : Sheet → ℕ → Option Totals
+totals_of S i = cond (ltb i (head_in S groups_at)) (Some (totals_in S i)) None
 
 -- what they show: none where no group has the place
-unfoldable pub shown : Closing → Option Line
-shown (Totals p tb ts ob os b) = some (line "E" (mpid (record { code = p }) ∷ number 0 ceiling tb ∷ number 0 ceiling ts ∷ number 0 ceiling ob ∷ number 0 ceiling os ∷ yes_no b ∷ []))
-shown Unlisted = none
+unfoldable pub shown : Option Totals → OptionOf Line
+shown (Some t) = some (line "E" (mpid (record { code = t.mpid }) ∷ number 0 ceiling t.traded_buys ∷ number 0 ceiling t.traded_sells ∷ number 0 ceiling t.open_buys ∷ number 0 ceiling t.open_sells ∷ yes_no t.blocked ∷ []))
+shown None = none
 
 -- THEOREM. Over a memory that meets the state rules they are the rulebook's closing line
 pub closing_shown : (m : List ℕ) → Valid m → (i : ℕ) → shown (totals_of (rows_of m) i) ≡ closing (view m) i
-unfolding shown totals_of books_in map
-closing_shown m v i = on (λ b. ltb i ng ≡ b → shown (cond b (totals_in S i) Unlisted) ≡ map line_for (cond b (some (group_of S i)) none)) (ltb i ng)
+unfolding shown totals_of books_in
+closing_shown m v i = on (λ b. ltb i ng ≡ b → shown (cond b (Some (totals_in S i)) None) ≡ map line_for (cond b (some (group_of S i)) none)) (ltb i ng)
     (λ z e. let s = v.summed i (ltb-true i ng e) in rw (s.open_buys, s.open_sells) refl) (λ z e. refl) refl
     ∙ ap (map line_for) (sym (get_elem_numbered (group_of S) ng i))
   where

@@ -1,8 +1,0 @@
--- `chains::few_apart` meets its contract: the arrays are made clear, and long enough.
-use Prim.{tt}
-use Rattle.std.proofs.Common.{lit<, rules}
-use Rattle.chains.specs.Chain.{clear}
-use Rattle.chains.proofs.few_apart.Goals as goal
-
-pub chain_rows-requires : goal.chain_rows-requires
-chain_rows-requires c = record { has_rows = c.requires.has_rows; clear = clear 1024 512 _ (lit< tt) (search rules) (search rules) }
