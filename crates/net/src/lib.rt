@@ -17,10 +17,7 @@ pub fn size_of(z: i64) -> u64
     requires { nat_abs z < 2 ^ 63 }
     ensures { result ≡ nat_abs z }
 {
-    if z < 0 {
-        return (0 - z) as u64;
-    }
-    z as u64
+    z.unsigned_abs()
 }
 
 // How far apart buys and sells are; 0 where they are equal.

@@ -1,9 +1,10 @@
 -- The open values of all groups, summed in one pass over the places: a total for each group's buys and one for its sells.
-use Rattle.std.specs.Prelude.{◌≡◌, refl, Bool, true, false, ◌&&◌, cond, List, ℕ, zero, ◌+◌, ◌-◌, ◌*◌, ◌≤◌, ◌<◌, eqb, length, get_or, set, replicate}
-use Rattle.std.proofs.Common.{sym, ◌∙◌, subst, arith, mul-le-mul, add-one, length-set, get_or-set_same, get_or-set_other}
+use Rattle.std.specs.Prelude.{◌≡◌, refl, Bool, true, false, ◌&&◌, cond, Option, None, Some, List, ℕ, ◌+◌, ◌-◌, ◌*◌, ◌≤◌, ◌<◌, leb, eqb, length, get_or, set, replicate}
+use Rattle.std.proofs.Common.{sym, ◌∙◌, ap, subst, arith, mul-le-mul, add-one, length-set, get_or-set_same, get_or-set_other}
 use Rattle.std.specs.Bool.{beq}
 use Rattle.std.proofs.lemmas.Bool.{false≢true}
 use Rattle.std.proofs.Math.Decide.{dec_lt}
+use Rattle.std.proofs.lemmas.Bool.Decides.{nat_tests}
 use Rattle.std.proofs.lemmas.List.{get_or-replicate, length-replicate}
 use borrow.Author.Tests.{leb-true, eqb-true, eqb-false, eq-eqb, ne_eqb}
 use Rattle.laws.specs.Tests.{on, first_fails, second_fails}
@@ -21,6 +22,7 @@ use Rattle.books.specs.Writing.{group_index}
 use Rattle.books.specs.Refining.{Counted}
 use Rattle.rules.specs.Passing.{word_at, figures_ok}
 use Rattle.rules.specs.Testing.{sums_are}
+use Rattle.state.specs.declared.Sides.{Sides}
 use Rattle.state.specs.Places.{same_desk, figures_right, place_ok, desk_at}
 
 -- what the j-th place counts for a group's buys (true) or sells
@@ -31,14 +33,29 @@ part_at S g b j = cond (opens_of S j) (worth (mpid_in (S groups g)) b (order_of 
 unfoldable pub part : Sheet → ℕ → Bool → ℕ → ℕ
 part S g b i = total (part_at S g b) i
 
--- where the code keeps it
-abbrev pub slot : ℕ → Bool → ℕ
-slot g b = cond b g (64 + g)
+-- of what a group has open, its buys (true) or its sells
+abbrev pub on_side : Bool → Sides → ℕ
+on_side b s = cond b s.buys s.sells
+
+abbrev pub no_sides : Sides
+no_sides = record { buys = 0; sells = 0 }
+
+-- what a group's row has stored
+abbrev pub stored_in : Sheet → ℕ → Sides
+stored_in S g = record { buys = S groups g open_buys_at; sells = S groups g open_sells_at }
+
+-- so much more on one side
+abbrev pub more_on : Bool → ℕ → Sides → Sides
+more_on b v s = cond b (record { buys = s.buys + v; sells = s.sells }) (record { buys = s.buys; sells = s.sells + v })
+
+-- or none, where that passes the ceiling
+unfoldable pub with_value : Bool → ℕ → Sides → Option Sides
+with_value b v s = cond (leb (more_on b v s).buys ceiling && leb (more_on b v s).sells ceiling) (Some (more_on b v s)) None
 
 -- each total is that of the first i places, and none is above the ceiling
-pub record Sums (S : Sheet) (sums : List ℕ) (i : ℕ) : Type 0 where
-  pub long : length sums ≡ 128
-  pub each : (g : ℕ) (b : Bool) → g < head_in S groups_at → get_or sums (slot g b) 0 ≡ part S g b i
+pub record Sums (S : Sheet) (sums : List Sides) (i : ℕ) : Type 0 where
+  pub long : length sums ≡ 64
+  pub each : (g : ℕ) (b : Bool) → g < head_in S groups_at → on_side b (get_or sums g no_sides) ≡ part S g b i
   pub within : (g : ℕ) (b : Bool) → g < head_in S groups_at → part S g b i ≤ ceiling
 
 -- one of them is
@@ -49,14 +66,14 @@ pub record Over (S : Sheet) (i : ℕ) : Type 0 where
   pub more : ceiling < part S at side i
 
 -- the totals of i places, or that one of them is above
-pub record Added (S : Sheet) (sums : List ℕ) (i : ℕ) (r : Bool) : Type 0 where
+pub record Added (S : Sheet) (sums : List Sides) (i : ℕ) (r : Bool) : Type 0 where
   pub good : r ≡ true → Sums S sums i
   pub over : r ≡ false → Over S i
 
-pub added : {S : Sheet} {sums : List ℕ} {i : ℕ} → Sums S sums i → Added S sums i true
+pub added : {S : Sheet} {sums : List Sides} {i : ℕ} → Sums S sums i → Added S sums i true
 added s = record { good = λ e. s; over = λ e. absurd (false≢true (sym e)) }
 
-pub passed : {S : Sheet} {sums : List ℕ} {i : ℕ} → Over S i → Added S sums i false
+pub passed : {S : Sheet} {sums : List Sides} {i : ℕ} → Over S i → Added S sums i false
 passed o = record { good = λ e. absurd (false≢true e); over = λ e. o }
 
 part_more : (S : Sheet) (g : ℕ) (b : Bool) (i : ℕ) → part S g b (i + 1) ≡ part S g b i + part_at S g b i
@@ -67,16 +84,16 @@ pub over_later : {S : Sheet} (i n : ℕ) → i ≤ n → Over S i → Over S n
 unfolding part
 over_later {S} i n le o = record { at = o.at; side = o.side; listed = o.listed; more = omega (arith, o.more, total_grows (part_at S o.at o.side) i n le) }
 
-pub sums_none : (S : Sheet) → head_in S groups_at ≤ 64 → Sums S (replicate 128 0) 0
+pub sums_none : (S : Sheet) → head_in S groups_at ≤ 64 → Sums S (replicate 64 no_sides) 0
 unfolding part
 sums_none S few = record {
-  long = length-replicate 128 zero;
-  each = λ g b lt. on (λ b. get_or (replicate 128 0) (slot g b) 0 ≡ 0) b (λ e. get_or-replicate 128 g 0 0 (omega arith)) (λ e. get_or-replicate 128 (64 + g) 0 0 (omega arith)) ∙ sym (total_none (part_at S g b));
+  long = length-replicate 64 no_sides;
+  each = λ g b lt. ap (on_side b) (get_or-replicate 64 g no_sides no_sides (omega arith)) ∙ on (λ b. on_side b no_sides ≡ 0) b (λ e. refl) (λ e. refl) ∙ sym (total_none (part_at S g b));
   within = λ g b lt. omega (arith, total_none (part_at S g b));
 }
 
 -- a place without an order adds nothing
-pub sums_skip : (S : Sheet) (sums : List ℕ) (i : ℕ) → Sums S sums i → opens_of S i ≡ false → Sums S sums (i + 1)
+pub sums_skip : (S : Sheet) (sums : List Sides) (i : ℕ) → Sums S sums i → opens_of S i ≡ false → Sums S sums (i + 1)
 sums_skip S sums i s e = record { long = s.long; each = λ g b lt. s.each g b lt ∙ sym (kept g b); within = λ g b lt. omega (arith, s.within g b lt, kept g b) }
   where
     kept : (g : ℕ) (b : Bool) → part S g b (i + 1) ≡ part S g b i
@@ -101,17 +118,37 @@ beq_same true false e = absurd (false≢true e)
 beq_same false true e = absurd (false≢true e)
 beq_same false false e = refl
 
-slots_apart : (g k : ℕ) (c b : Bool) → g < 64 → k < 64 → (g ≡ k → ⊥) → slot g c ≡ slot k b → ⊥
-slots_apart g k true true h l ne e = ne e
-slots_apart g k true false h l ne e = omega arith
-slots_apart g k false true h l ne e = omega arith
-slots_apart g k false false h l ne e = ne (omega arith)
+-- what is on the other side stays
+other_kept : (c b : Bool) (v : ℕ) (s : Sides) → beq c b ≡ false → on_side c (more_on b v s) ≡ on_side c s
+other_kept true true v s e = absurd (false≢true (sym e))
+other_kept true false v s e = refl
+other_kept false true v s e = refl
+other_kept false false v s e = absurd (false≢true (sym e))
 
-sides_apart : (k : ℕ) (c b : Bool) → beq c b ≡ false → slot k c ≡ slot k b → ⊥
-sides_apart k true true q e = false≢true (sym q)
-sides_apart k true false q e = omega arith
-sides_apart k false true q e = omega arith
-sides_apart k false false q e = false≢true (sym q)
+side_more : (b : Bool) (v : ℕ) (s : Sides) → on_side b (more_on b v s) ≡ on_side b s + v
+side_more true v s = refl
+side_more false v s = refl
+
+-- a value more is kept, or passes the ceiling
+kept_so : (x y : ℕ) (s t : Sides) → cond (leb x ceiling && leb y ceiling) (Some s) None ≡ Some t → (t ≡ s) × (x ≤ ceiling) × (y ≤ ceiling)
+kept_so x y s t e = grind (arith, nat_tests)
+
+over_buys : (x y : ℕ) (s : Sides) → cond (leb x ceiling && leb y ceiling) (Some s) None ≡ None → y ≤ ceiling → ceiling < x
+over_buys x y s e h = grind (arith, nat_tests)
+
+over_sells : (x y : ℕ) (s : Sides) → cond (leb x ceiling && leb y ceiling) (Some s) None ≡ None → x ≤ ceiling → ceiling < y
+over_sells x y s e h = grind (arith, nat_tests)
+
+value_kept : (b : Bool) (v : ℕ) (s t : Sides) → with_value b v s ≡ Some t → (t ≡ more_on b v s) × (on_side b s + v ≤ ceiling)
+unfolding with_value
+value_kept b v s t e =
+    let w = kept_so (more_on b v s).buys (more_on b v s).sells (more_on b v s) t e in
+    (w.0, on (λ c. on_side c (more_on c v s) ≤ ceiling → on_side c s + v ≤ ceiling) b (λ q h. h) (λ q h. h) (on (λ c. on_side c (more_on b v s) ≤ ceiling) b (λ q. w.1) (λ q. w.2)))
+
+value_over : (b : Bool) (v : ℕ) (s : Sides) → ((c : Bool) → on_side c s ≤ ceiling) → with_value b v s ≡ None → ceiling < on_side b s + v
+unfolding with_value
+value_over true v s most e = over_buys (s.buys + v) s.sells (more_on true v s) e (most false)
+value_over false v s most e = over_sells s.buys (s.sells + v) (more_on false v s) e (most true)
 
 -- the sum over the orders is that over the places
 sums_read : (S : Sheet) (g : ℕ) (b : Bool) → sum (worth (mpid_in (S groups g)) b) (orders_in S) ≡ part S g b (head_in S places_at)
@@ -125,7 +162,7 @@ side_broken S g false most h = second_fails (eqb (S groups g open_buys_at) (sum 
     (ne_eqb (S groups g open_sells_at) (sum (worth (mpid_in (S groups g)) false) (orders_in S)) (λ e. omega (arith, most.1, sums_read S g false)))
 
 -- an order's value is to be added to its owner's total
-pub record Adding (m sums : List ℕ) (i k v : ℕ) : Type 0 where
+pub record Adding (m : List ℕ) (sums : List Sides) (i k v : ℕ) : Type 0 where
   pub so_far : Sums (rows_of m) sums i
   pub few : head_in (rows_of m) groups_at ≤ 64
   pub lt : k < head_in (rows_of m) groups_at
@@ -134,26 +171,29 @@ pub record Adding (m sums : List ℕ) (i k v : ℕ) : Type 0 where
   pub holds : opens_of (rows_of m) i ≡ true
   pub is : v ≡ open_value (order_of (rows_of m) i)
 
-module _ (m sums : List ℕ) (i k v : ℕ) (a : Adding m sums i k v) where
+module _ (m : List ℕ) (sums : List Sides) (i k v : ℕ) (a : Adding m sums i k v) where
   abbrev S : Sheet
   S = rows_of m
 
   abbrev b : Bool
   b = side_of_row S i
 
+  -- what the group has open so far
+  abbrev so_far : Sides
+  so_far = get_or sums k no_sides
+
   value : part_at S k b i ≡ v
   unfolding worth
   value = rw (a.holds, eq-eqb (S groups k mpid_at) (order_of S i).ticket.key.owner.mpid.code a.own, same_bool b) (sym a.is)
 
-  sum_after : part S k b (i + 1) ≡ get_or sums (slot k b) 0 + v
+  sum_after : part S k b (i + 1) ≡ on_side b so_far + v
   sum_after = omega (arith, part_more S k b i, a.so_far.each k b a.lt, value)
 
-  -- what is kept so far, and with the value
-  pub sum_small : get_or sums (slot k b) 0 ≤ ceiling
-  sum_small = omega (arith, a.so_far.each k b a.lt, a.so_far.within k b a.lt)
+  pub sum_small : (c : Bool) → on_side c so_far ≤ ceiling
+  sum_small c = omega (arith, a.so_far.each k c a.lt, a.so_far.within k c a.lt)
 
-  pub sums_over : ceiling < get_or sums (slot k b) 0 + v → Over S (i + 1)
-  sums_over h = record { at = k; side = b; listed = a.lt; more = omega (arith, sum_after) }
+  pub sums_over : with_value b v so_far ≡ None → Over S (i + 1)
+  sums_over e = record { at = k; side = b; listed = a.lt; more = omega (arith, sum_after, value_over b v so_far sum_small e) }
 
   -- another group's, or the other side's
   other_desk : (g : ℕ) → (g ≡ k → ⊥) → g < head_in S groups_at → same_mpid (mpid_in (S groups g)) (order_of S i).ticket.key.owner.mpid ≡ false
@@ -171,29 +211,31 @@ module _ (m sums : List ℕ) (i k v : ℕ) (a : Adding m sums i k v) where
   other_side : (c : Bool) → beq c b ≡ false → part S k c (i + 1) ≡ part S k c i
   other_side c e = let z = not_worth S k c i (second_fails (same_mpid (mpid_in (S groups k)) (order_of S i).ticket.key.owner.mpid) e) in omega (arith, part_more S k c i, z)
 
-  pub sums_add : get_or sums (slot k b) 0 + v ≤ ceiling → Sums S (set sums (slot k b) (get_or sums (slot k b) 0 + v)) (i + 1)
-  sums_add le = record { long = simp length-set a.so_far.long; each = λ g c h. (one g c h).0; within = λ g c h. (one g c h).1 }
+  pub sums_add : (t : Sides) → with_value b v so_far ≡ Some t → Sums S (set sums k t) (i + 1)
+  sums_add t e = record { long = simp length-set a.so_far.long; each = λ g c h. (one g c h).0; within = λ g c h. (one g c h).1 }
     where
-      new : List ℕ
-      new = set sums (slot k b) (get_or sums (slot k b) 0 + v)
+      kept : (t ≡ more_on b v so_far) × (on_side b so_far + v ≤ ceiling)
+      kept = value_kept b v so_far t e
 
-      elsewhere : (g : ℕ) (c : Bool) → g < head_in S groups_at → (slot g c ≡ slot k b → ⊥) → part S g c (i + 1) ≡ part S g c i → (get_or new (slot g c) 0 ≡ part S g c (i + 1)) × (part S g c (i + 1) ≤ ceiling)
-      elsewhere g c h ne kept = (get_or-set_other sums (slot k b) (slot g c) (get_or sums (slot k b) 0 + v) 0 ne ∙ a.so_far.each g c h ∙ sym kept, omega (arith, a.so_far.within g c h, kept))
+      elsewhere : (g : ℕ) (c : Bool) → g < head_in S groups_at → (g ≡ k → ⊥) → (on_side c (get_or (set sums k t) g no_sides) ≡ part S g c (i + 1)) × (part S g c (i + 1) ≤ ceiling)
+      elsewhere g c h ne = let same = kept_desk g c ne h in (ap (on_side c) (get_or-set_other sums k g t no_sides ne) ∙ a.so_far.each g c h ∙ sym same, omega (arith, a.so_far.within g c h, same))
 
-      here : (get_or new (slot k b) 0 ≡ part S k b (i + 1)) × (part S k b (i + 1) ≤ ceiling)
-      here = (get_or-set_same sums (slot k b) (get_or sums (slot k b) 0 + v) 0 (small b) ∙ sym sum_after, omega (arith, sum_after))
-        where
-          small : (b : Bool) → slot k b < length sums
-          small true = omega (arith, a.so_far.long, a.few, a.lt)
-          small false = omega (arith, a.so_far.long, a.few, a.lt)
+      here : get_or (set sums k t) k no_sides ≡ more_on b v so_far
+      here = get_or-set_same sums k t no_sides (omega (arith, a.so_far.long, a.few, a.lt)) ∙ kept.0
 
-      one : (g : ℕ) (c : Bool) → g < head_in S groups_at → (get_or new (slot g c) 0 ≡ part S g c (i + 1)) × (part S g c (i + 1) ≤ ceiling)
-      one g c h = on (λ t. eqb g k ≡ t → (get_or new (slot g c) 0 ≡ part S g c (i + 1)) × (part S g c (i + 1) ≤ ceiling)) (eqb g k)
-          (λ z e. subst (λ g. (get_or new (slot g c) 0 ≡ part S g c (i + 1)) × (part S g c (i + 1) ≤ ceiling)) (sym (eqb-true g k e))
-          (on (λ t. beq c b ≡ t → (get_or new (slot k c) 0 ≡ part S k c (i + 1)) × (part S k c (i + 1) ≤ ceiling)) (beq c b)
-          (λ z q. subst (λ c. (get_or new (slot k c) 0 ≡ part S k c (i + 1)) × (part S k c (i + 1) ≤ ceiling)) (sym (beq_same c b q)) here)
-          (λ z q. elsewhere k c a.lt (sides_apart k c b q) (other_side c q)) refl))
-          (λ z e. elsewhere g c h (slots_apart g k c b (omega (arith, a.few, h)) (omega (arith, a.few, a.lt)) (eqb-false g k e)) (kept_desk g c (eqb-false g k e) h)) refl
+      this_side : (on_side b (get_or (set sums k t) k no_sides) ≡ part S k b (i + 1)) × (part S k b (i + 1) ≤ ceiling)
+      this_side = (ap (on_side b) here ∙ side_more b v so_far ∙ sym sum_after, omega (arith, sum_after, kept.1))
+
+      that_side : (c : Bool) → beq c b ≡ false → (on_side c (get_or (set sums k t) k no_sides) ≡ part S k c (i + 1)) × (part S k c (i + 1) ≤ ceiling)
+      that_side c q = let same = other_side c q in (ap (on_side c) here ∙ other_kept c b v so_far q ∙ a.so_far.each k c a.lt ∙ sym same, omega (arith, a.so_far.within k c a.lt, same))
+
+      one : (g : ℕ) (c : Bool) → g < head_in S groups_at → (on_side c (get_or (set sums k t) g no_sides) ≡ part S g c (i + 1)) × (part S g c (i + 1) ≤ ceiling)
+      one g c h = on (λ z. eqb g k ≡ z → (on_side c (get_or (set sums k t) g no_sides) ≡ part S g c (i + 1)) × (part S g c (i + 1) ≤ ceiling)) (eqb g k)
+          (λ z e. subst (λ g. (on_side c (get_or (set sums k t) g no_sides) ≡ part S g c (i + 1)) × (part S g c (i + 1) ≤ ceiling)) (sym (eqb-true g k e))
+          (on (λ z. beq c b ≡ z → (on_side c (get_or (set sums k t) k no_sides) ≡ part S k c (i + 1)) × (part S k c (i + 1) ≤ ceiling)) (beq c b)
+          (λ z q. subst (λ c. (on_side c (get_or (set sums k t) k no_sides) ≡ part S k c (i + 1)) × (part S k c (i + 1) ≤ ceiling)) (sym (beq_same c b q)) this_side)
+          (λ z q. that_side c q) refl))
+          (λ z e. elsewhere g c h (eqb-false g k e)) refl
 
 -- ── at the end of the pass ──
 -- a total above the ceiling is no stored one
@@ -201,7 +243,8 @@ pub sums_broken : (S : Sheet) → ((g : ℕ) → g < head_in S groups_at → (S 
 sums_broken S most o = every_no (sums_are S) (head_in S groups_at) o.at o.listed (side_broken S o.at o.side (most o.at o.listed) o.more)
 
 -- and else the stored ones are compared
-pub sums_compared : (S : Sheet) (sums : List ℕ) → Sums S sums (head_in S places_at) → (g : ℕ) → g < head_in S groups_at → sums_are S g ≡ (eqb (S groups g open_buys_at) (get_or sums g 0) && eqb (S groups g open_sells_at) (get_or sums (64 + g) 0))
+pub sums_compared : (S : Sheet) (sums : List Sides) → Sums S sums (head_in S places_at) → (g : ℕ) → g < head_in S groups_at →
+    sums_are S g ≡ (eqb (S groups g open_buys_at) (get_or sums g no_sides).buys && eqb (S groups g open_sells_at) (get_or sums g no_sides).sells)
 unfolding sums_are
 sums_compared S sums s g lt = rw (s.each g true lt, s.each g false lt, sums_read S g true, sums_read S g false) refl
 
@@ -251,5 +294,5 @@ unfolding group_index
 desk_owns m i k e lt = sym (eqb-true _ _ (subst (λ k. k < head_in (rows_of m) groups_at → same_mpid (order_of (rows_of m) i).ticket.key.owner.mpid (mpid_in (rows_of m groups k)) ≡ true) (sym e)
     (least_is (λ j. same_mpid (order_of (rows_of m) i).ticket.key.owner.mpid (mpid_in (rows_of m groups j))) (head_in (rows_of m) groups_at)).here lt))
 
-pub adding : (m sums : List ℕ) (i k v : ℕ) → Counted m → Due m i k → Sums (rows_of m) sums i → opens_of (rows_of m) i ≡ true → v ≡ open_value (order_of (rows_of m) i) → Adding m sums i k v
+pub adding : (m : List ℕ) (sums : List Sides) (i k v : ℕ) → Counted m → Due m i k → Sums (rows_of m) sums i → opens_of (rows_of m) i ≡ true → v ≡ open_value (order_of (rows_of m) i) → Adding m sums i k v
 adding m sums i k v c d s q e = record { so_far = s; few = c.few_groups; lt = d.listed; own = desk_owns m i k d.desk d.listed; alone = d.alone; holds = q; is = e }

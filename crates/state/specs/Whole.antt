@@ -1,5 +1,5 @@
 -- The test of the whole memory as the code makes it, and that it is the test of the state rules.
-use Rattle.std.specs.Prelude.{◌≡◌, refl, Bool, true, false, ◌&&◌, ◌||◌, cond, ◌⊎◌, List, [], ◌∷◌, ℕ, ◌+◌, ◌≤◌, ◌<◌, leb, ltb, eqb, length}
+use Rattle.std.specs.Prelude.{◌≡◌, refl, Bool, true, false, ◌&&◌, ◌||◌, cond, ◌⊎◌, Option, None, Some, List, [], ◌∷◌, ℕ, ◌+◌, ◌≤◌, ◌<◌, leb, ltb, eqb, length}
 use Rattle.std.proofs.Common.{sym, ◌∙◌, subst, inl, inr, ⊎_elim, arith, leb-true, ltb-true, lt-ltb, le-ltb}
 use Rattle.std.proofs.lemmas.Bool.{false≢true}
 use Rattle.laws.specs.Tests.{on, both, two, first_fails, second_fails}
@@ -20,6 +20,7 @@ use Rattle.rules.specs.Testing.{head_fits, request_fits, desk_listed, symbol_lis
 use Rattle.rules.specs.Meaning.{holding, held}
 use Rattle.rules.specs.Passing.{words_within, word_at, word_within, group_start, totals_ok, head_ok, group_ok, symbol_ok, figures_ok}
 use Rattle.rules.specs.Agreeing.{early_is, OrderRules, GroupRules, group_read, group_met, symbol_read, symbol_met, request_read, request_met, order_read, order_met, unused_read, unused_met}
+use Rattle.state.specs.declared.Sides.{Sides}
 use Rattle.state.specs.Places.{same_desk, same_id, figures_right, place_ok, desk_at}
 use Rattle.state.specs.Summing.{Sums, Over, over_later, sums_broken}
 
@@ -45,9 +46,9 @@ pub record Listed (m : List ℕ) : Type 0 where
 abbrev Faulty : List ℕ → Type 0
 Faulty m = ((j : ℕ) × (j < head_in (rows_of m) places_at) × (fine m j ≡ false)) ⊎ Over (rows_of m) (head_in (rows_of m) places_at)
 
-pub record Tallied (m sums : List ℕ) (r : Bool) : Type 0 where
-  pub good : r ≡ true → Sums (rows_of m) sums (head_in (rows_of m) places_at) × (every (fine m) (head_in (rows_of m) places_at) ≡ true)
-  pub bad : r ≡ false → Faulty m
+abbrev pub Tallied : List ℕ → Option (List Sides) → Type 0
+Tallied m None = Faulty m
+Tallied m (Some sums) = Sums (rows_of m) sums (head_in (rows_of m) places_at) × (every (fine m) (head_in (rows_of m) places_at) ≡ true)
 
 -- every rule but that the keys are apart
 unfoldable pub parts_ok : List ℕ → Bool
@@ -190,40 +191,37 @@ pub whole : (m : List ℕ) → passes m ≡ state_ok m
 whole m = on (λ b. passes m ≡ b → b ≡ state_ok m) (passes m) (λ z e. sym (whole_read m e)) (λ z e. sym (on (λ c. state_ok m ≡ c → c ≡ false) (state_ok m) (λ y q. absurd (false≢true (sym e ∙ whole_met m q))) (λ y q. refl) refl)) refl
 
 -- ── how the pass ends ──
-faulty : {m sums : List ℕ} → Faulty m → Tallied m sums false
-faulty f = record { good = λ e. absurd (false≢true e); bad = λ e. f }
-
 -- at a place whose owner is not listed, at one that is not in range, and at a total above the ceiling
-pub unlisted : {m sums : List ℕ} (i : ℕ) → i < head_in (rows_of m) places_at → head_in (rows_of m) groups_at ≤ desk_at m i → Tallied m sums false
+pub unlisted : (m : List ℕ) (i : ℕ) → i < head_in (rows_of m) places_at → head_in (rows_of m) groups_at ≤ desk_at m i → Tallied m None
 unfolding fine desk_listed
-unlisted {m} i lt h = faulty (inl (i, lt, first_fails _ (le-ltb (desk_at m i) (head_in (rows_of m) groups_at) h)))
+unlisted m i lt h = inl (i, lt, first_fails _ (le-ltb (desk_at m i) (head_in (rows_of m) groups_at) h))
 
-pub unfit : {m sums : List ℕ} (i : ℕ) → i < head_in (rows_of m) places_at → place_ok m i ≡ false → Tallied m sums false
+pub unfit : (m : List ℕ) (i : ℕ) → i < head_in (rows_of m) places_at → place_ok m i ≡ false → Tallied m None
 unfolding fine
-unfit {m} i lt e = faulty (inl (i, lt, second_fails (desk_listed (rows_of m) i) e))
+unfit m i lt e = inl (i, lt, second_fails (desk_listed (rows_of m) i) e)
 
-pub too_much : {m sums : List ℕ} (i : ℕ) → i < head_in (rows_of m) places_at → Over (rows_of m) (i + 1) → Tallied m sums false
-too_much {m} i lt o = faulty (inr (over_later (i + 1) (head_in (rows_of m) places_at) (omega arith) o))
+pub too_much : (m : List ℕ) (i : ℕ) → i < head_in (rows_of m) places_at → Over (rows_of m) (i + 1) → Tallied m None
+too_much m i lt o = inr (over_later (i + 1) (head_in (rows_of m) places_at) (omega arith) o)
 
 -- and after the last
-pub tallied : {m sums : List ℕ} → Sums (rows_of m) sums (head_in (rows_of m) places_at) → ((j : ℕ) → j < head_in (rows_of m) places_at → fine m j ≡ true) → Tallied m sums true
-tallied {m} s f = record { good = λ e. (s, every_yes (fine m) (head_in (rows_of m) places_at) f); bad = λ e. absurd (false≢true (sym e)) }
+pub tallied : (m : List ℕ) (sums : List Sides) → Sums (rows_of m) sums (head_in (rows_of m) places_at) → ((j : ℕ) → j < head_in (rows_of m) places_at → fine m j ≡ true) → Tallied m (Some sums)
+tallied m sums s f = (s, every_yes (fine m) (head_in (rows_of m) places_at) f)
 
 pub fine_at : (m : List ℕ) (i k : ℕ) → k ≡ desk_at m i → k < head_in (rows_of m) groups_at → place_ok m i ≡ true → fine m i ≡ true
 unfolding desk_listed
 fine_at m i k e lt p = fine_met m i (lt-ltb _ _ (subst (λ (k : ℕ). k < head_in (rows_of m) groups_at) e lt)) p
 
 -- ── the table ──
-pub table_broken : (m sums : List ℕ) → Listed m → Tallied m sums false → false ≡ table_ok m
+pub table_broken : (m : List ℕ) → Listed m → Tallied m None → false ≡ table_ok m
 unfolding table_ok
-table_broken m sums l t = ⊎_elim {C = false ≡ table_ok m}
+table_broken m l t = ⊎_elim {C = false ≡ table_ok m}
     (λ f. stop _ _ (every_no (fine m) (head_in (rows_of m) places_at) f.0 f.1 f.2))
     (λ o. on (λ b. every (fine m) (head_in (rows_of m) places_at) ≡ b → false ≡ all_hold (b ∷ every (sums_are (rows_of m)) (head_in (rows_of m) groups_at) ∷ [])) (every (fine m) (head_in (rows_of m) places_at))
-    (λ z e. pass _ _ _ refl (stop _ _ (sums_broken (rows_of m) l.totals o))) (λ z e. stop _ _ refl) refl) (t.bad refl)
+    (λ z e. pass _ _ _ refl (stop _ _ (sums_broken (rows_of m) l.totals o))) (λ z e. stop _ _ refl) refl) t
 
-pub table_compared : (m sums : List ℕ) (r : Bool) → Tallied m sums true → r ≡ every (sums_are (rows_of m)) (head_in (rows_of m) groups_at) → r ≡ table_ok m
+pub table_compared : (m : List ℕ) (sums : List Sides) (r : Bool) → Tallied m (Some sums) → r ≡ every (sums_are (rows_of m)) (head_in (rows_of m) groups_at) → r ≡ table_ok m
 unfolding table_ok
-table_compared m sums r t e = pass _ _ _ (t.good refl).1 (last_call _ _ e)
+table_compared m sums r t e = pass _ _ _ t.1 (last_call _ _ e)
 
 -- ── what each part relies on ──
 group_totals : (m : List ℕ) (g : ℕ) → group_ok m g ≡ true → (rows_of m groups g open_buys_at ≤ ceiling) × (rows_of m groups g open_sells_at ≤ ceiling)

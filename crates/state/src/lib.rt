@@ -2,20 +2,22 @@
 // The time is linear in the places: identifiers are told apart by chains, and the open values of all groups are summed in one pass.
 #![tactic(auto)]
 
-ghost use Rattle.std.specs.Prelude.{◌≡◌, true, false, ◌+◌, ◌≤◌, ◌<◌, length};
+ghost use Rattle.std.specs.Prelude.{◌≡◌, true, ◌+◌, ◌≤◌, ◌<◌, length};
 ghost use Rattle.laws.specs.Numbered.{every, apart};
-ghost use Rattle.books.specs.Layout.{groups, symbols, base_of, width_of, room_of, groups_at, symbols_at, places_at};
+ghost use Rattle.books.specs.Layout.{groups, symbols, keys, room_of, groups_at, symbols_at, places_at};
 ghost use Rattle.books.specs.View.{head_in, rows_of};
 ghost use Rattle.books.specs.Refining.{Counted};
-ghost use Rattle.chains.specs.Words.{HasRows, same_row};
+ghost use Rattle.chains.specs.Words.{same_row};
 ghost use Rattle.store.specs.Finding.{first_row};
 ghost use Rattle.rules.specs.Testing.{state_ok, sums_are};
 ghost use Rattle.rules.specs.Passing.{group_ok, symbol_ok};
-ghost use Rattle.rulebook.specs.Lines.{is_buy};
+ghost use Rattle.rulebook.specs.Lines.{ceiling, is_buy};
 ghost use Rattle.fields.specs.Series.{side_of};
-ghost use Rattle.state.specs.Summing.{Sums, Added, Due, Priced, value_at, slot};
+ghost use Rattle.state.specs.Summing.{Sums, Added, Due, Priced, value_at, with_value, stored_in};
 ghost use Rattle.state.specs.Whole.{Listed, Tallied, table_ok, listed_ok, parts_ok};
-ghost use Rattle.state.specs.Places.{figures_right, place_ok, desk_at};
+ghost use Rattle.state.specs.Places.{AreRows, listed_at, figures_right, place_ok, desk_at};
+
+use chains::Rows;
 
 // A row's first word.
 const FIRST: usize = 0;
@@ -30,11 +32,58 @@ const SPREAD: u64 = 2_654_435_769;
 
 const SHIFT: u64 = 0x40_0000;
 
-// A hint, as wide as an index.
-fn wide(x: u16) -> usize
-    ensures { result ≡ x }
+// A hint for each row of a list: where its first word stands. A hint is only a hint: nothing is promised of it.
+// kept: a rule of the project (no heap): an array, and no map
+type Hints = [u16; HINTS];
+
+// What a group has open, summed over the table: its buys and its sells.
+#[derive(Clone, Copy, PartialEq, Eq)]
+struct Sides {
+    buys: u64,
+    sells: u64,
+}
+
+// kept: no plainer: the three lists differ in each field of the literal, and one function of four const parameters hides which is which.
+// The rows of the groups listed, by their MPIDs.
+fn group_rows(mem: &[u64]) -> Rows
+    requires { Counted mem.now }
+    ensures { AreRows result mem.now groups 1 (head_in (rows_of mem.now) groups_at) }
 {
-    x as usize
+    Rows {
+        mem,
+        at: books::GROUPS,
+        width: books::GROUP_WORDS,
+        words: 1,
+        count: mem[books::GROUPS_LISTED] as usize,
+    }
+}
+
+// The rows of the symbols listed, by their IDs.
+fn symbol_rows(mem: &[u64]) -> Rows
+    requires { Counted mem.now }
+    ensures { AreRows result mem.now symbols 1 (head_in (rows_of mem.now) symbols_at) }
+{
+    Rows {
+        mem,
+        at: books::SYMBOLS,
+        width: books::SYMBOL_WORDS,
+        words: 1,
+        count: mem[books::SYMBOLS_LISTED] as usize,
+    }
+}
+
+// The rows of the places taken, by their keys.
+fn key_rows(mem: &[u64]) -> Rows
+    requires { Counted mem.now }
+    ensures { AreRows result mem.now keys 4 (head_in (rows_of mem.now) places_at) }
+{
+    Rows {
+        mem,
+        at: books::KEYS,
+        width: books::KEY_WORDS,
+        words: books::KEY_WORDS,
+        count: mem[books::PLACES_TAKEN] as usize,
+    }
 }
 
 // Whether every listed group's words are in range.
@@ -42,15 +91,7 @@ fn groups_ok(mem: &[u64]) -> bool
     requires { Counted mem.now }
     ensures { result ≡ every (group_ok mem.now) (head_in (rows_of mem.now) groups_at) }
 {
-    let n = mem[books::GROUPS_LISTED] as usize;
-    let mut i = 0;
-    while i < n {
-        if !rules::group_ok(mem, i) {
-            return false;
-        }
-        i += 1;
-    }
-    true
+    (0..mem[books::GROUPS_LISTED] as usize).all(|i| rules::group_ok(mem, i))
 }
 
 // Whether every listed symbol's words are in range.
@@ -58,112 +99,47 @@ fn symbols_ok(mem: &[u64]) -> bool
     requires { Counted mem.now }
     ensures { result ≡ every (symbol_ok mem.now) (head_in (rows_of mem.now) symbols_at) }
 {
-    let n = mem[books::SYMBOLS_LISTED] as usize;
-    let mut i = 0;
-    while i < n {
-        if !rules::symbol_ok(mem, i) {
-            return false;
-        }
-        i += 1;
-    }
-    true
+    (0..mem[books::SYMBOLS_LISTED] as usize).all(|i| rules::symbol_ok(mem, i))
 }
 
 // The hint that a word has.
 fn hint_of(word: u64) -> usize
     ensures { result < 1024 }
 {
-    (word % LOW * SPREAD / SHIFT % 1024) as usize
+    (word % LOW * SPREAD / SHIFT % HINTS as u64) as usize
 }
 
-// A hint for each of n rows: where its first word stands. Of rows that share a hint the last has it. A hint is only a hint: nothing is promised of it.
-fn hint_rows(mem: &[u64], at: usize, width: usize, n: usize, hints: &mut [u16])
-    requires has_rows { HasRows mem.now at width 1 n }
-    requires in_bounds { 1024 ≤ length hints.old }
+// The hints of some rows. Of rows that share a hint the last has it.
+fn hint_rows(rows: Rows) -> Hints
+    requires { rows.words ≡ 1 }
 {
-    let mut i = 0;
-    while i < n {
-        let s = hint_of(mem[at + i * width + FIRST]);
-        hints[s] = i as u16;
-        i += 1;
+    let mut hints = [0; HINTS];
+    for i in 0..rows.count {
+        let word = rows.mem[rows.at + i * rows.width + FIRST];
+        hints[hint_of(word)] = i as u16;
     }
+    hints
 }
 
-// The first of n rows that begins with this word, or n, where no two rows begin alike. The hint is tried first, and believed only where it is right.
-fn find_hinted(
-    mem: &[u64],
-    hints: &mut [u16],
-    at: usize,
-    width: usize,
-    n: usize,
-    word: u64,
-) -> usize
-    requires has_rows { HasRows mem.now at width 1 n }
-    requires n_value { apart (same_row mem.now at width 1) n ≡ true }
-    requires in_bounds { 1024 ≤ length hints.old }
-    ensures { result ≡ first_row mem.now at width n word }
+// The first row that begins with this word, where no two rows begin alike. The hint is tried first, and believed only where it is right.
+#[tactic(auto, using(std::proofs::lemmas::Bool::Decides::nat_tests, crate::specs::Places::hint_right, crate::specs::Places::row_within))]
+fn find_hinted(rows: Rows, hints: &mut Hints, word: u64) -> Option<usize>
+    requires by_first { rows.words ≡ 1 }
+    requires begin_apart { apart (same_row rows.mem.now rows.at rows.width 1) rows.count ≡ true }
+    ensures { result ≡ listed_at (first_row rows.entry.mem.now rows.entry.at rows.entry.width rows.entry.count word) rows.entry.count }
 {
     let s = hint_of(word);
-    let i = wide(hints[s]);
-    if i < n {
-        if mem[at + i * width + FIRST] == word {
-            return i;
-        }
+    let i = usize::from(hints[s]);
+    if i < rows.count && rows.mem[rows.at + i * rows.width + FIRST] == word {
+        return Some(i);
     }
-    let k = store::find_word(mem, at, width, n, word);
+    let k = store::find_word(rows.mem, rows.at, rows.width, rows.count, word);
     hints[s] = k as u16;
-    k
-}
-
-// Whether a place holds an order with figures in range and a listed symbol, or none and figures of 0.
-fn order_ok(mem: &[u64], ids: &mut [u16], i: usize) -> bool
-    requires counted { Counted mem.now }
-    requires symbols_at_value { apart (same_row mem.now (base_of symbols) (width_of symbols) 1) (head_in (rows_of mem.now) symbols_at) ≡ true }
-    requires in_bounds { 1024 ≤ length ids.old }
-    requires i_bound { i < room_of mem.now }
-    ensures { result ≡ figures_right mem.now i }
-{
-    let b = store::request_at(mem, i);
-    let o = store::order_at(mem, i);
-    if !rules::opens(mem, b) {
-        return rules::no_figures(mem, o);
-    }
-    if !rules::figures_ok(mem, o) {
-        return false;
-    }
-    let n = mem[books::SYMBOLS_LISTED] as usize;
-    let symbol = mem[b + books::SYMBOL];
-    find_hinted(mem, ids, books::SYMBOLS, books::SYMBOL_WORDS, n, symbol) < n
-}
-
-// Whether a taken place's request is in range, and so is its order.
-fn place_ok(mem: &[u64], ids: &mut [u16], i: usize) -> bool
-    requires counted { Counted mem.now }
-    requires symbols_at_value { apart (same_row mem.now (base_of symbols) (width_of symbols) 1) (head_in (rows_of mem.now) symbols_at) ≡ true }
-    requires in_bounds { 1024 ≤ length ids.old }
-    requires i_bound { i < room_of mem.now }
-    ensures { result ≡ place_ok mem.now i }
-{
-    if !rules::request_ok(mem, i, store::request_at(mem, i)) {
-        return false;
-    }
-    order_ok(mem, ids, i)
-}
-
-// The place among the groups of a taken place's owner, or how many groups are listed.
-fn desk_of(mem: &[u64], desks: &mut [u16], i: usize) -> usize
-    requires counted { Counted mem.now }
-    requires groups_at_value { apart (same_row mem.now (base_of groups) (width_of groups) 1) (head_in (rows_of mem.now) groups_at) ≡ true }
-    requires in_bounds { 1024 ≤ length desks.old }
-    requires i_bound { i < room_of mem.now }
-    ensures { result ≡ desk_at mem.now i }
-{
-    let n = mem[books::GROUPS_LISTED] as usize;
-    let owner = mem[books::KEYS + i * books::KEY_WORDS + books::OWNER];
-    find_hinted(mem, desks, books::GROUPS, books::GROUP_WORDS, n, owner)
+    if k < rows.count { Some(k) } else { None }
 }
 
 // What an order, at b, has open: remaining x price.
+#[tactic(auto, unfolding(crate::specs::Summing::value_at))]
 fn value_of(mem: &[u64], b: usize) -> u64
     requires { Priced mem.now b }
     ensures { result ≡ value_at mem.now b }
@@ -171,172 +147,172 @@ fn value_of(mem: &[u64], b: usize) -> u64
     (mem[b + books::ORDER_SIZE] - mem[b + books::DONE]) * mem[b + books::ORDER_PRICE]
 }
 
-// Where a group's total of this side is kept: buys first, and then sells.
-fn slot_of(k: usize, side: u64) -> usize
-    requires { k < 64 }
-    ensures slot { result ≡ slot k (is_buy (side_of side)) }
-    ensures small { result < 128 }
-{
-    if side == books::BUY {
-        return k;
+impl Sides {
+    // With the open value of one more order of this side, or none where that passes the ceiling.
+    #[tactic(auto, using(std::proofs::lemmas::Bool::Decides::nat_tests), unfolding(crate::specs::Summing::with_value))]
+    fn with(self, side: u64, value: u64) -> Option<Sides>
+        requires buys_most { self.buys ≤ ceiling }
+        requires sells_most { self.sells ≤ ceiling }
+        requires value_most { value ≤ ceiling }
+        ensures { result ≡ with_value (is_buy (side_of side)) value self }
+    {
+        let mut more = self;
+        if side == books::BUY {
+            more.buys += value;
+        } else {
+            more.sells += value;
+        }
+        (more.buys <= books::CEILING && more.sells <= books::CEILING).then_some(more)
     }
-    books::MOST_GROUPS + k
 }
 
-// The open value of the i-th place is added to its group's, which is the k-th. False where that passes the ceiling.
-fn add_value(mem: &[u64], i: usize, k: usize, sums: &mut [u64]) -> bool
-    requires counted { Counted mem.now }
-    requires due { Due mem.now i k }
-    requires sums { Sums (rows_of mem.now) sums.old i }
-    ensures { Added (rows_of mem.now) sums.new (i + 1) result }
-{
-    let b = store::request_at(mem, i);
-    if !rules::opens(mem, b) {
-        return true;
-    }
-    let v = value_of(mem, store::order_at(mem, i));
-    let s = slot_of(k, mem[b + books::SIDE]);
-    let t = sums[s] + v;
-    if t > books::CEILING {
-        return false;
-    }
-    sums[s] = t;
-    true
+// The lent words, where the groups and the symbols that are listed are in order.
+#[derive(Clone, Copy)]
+struct Lists<'a> {
+    mem: &'a [u64],
+    ghost listed: { Listed mem.now },
 }
 
-// Every taken place tried, its owner found and its open value added. False where a place is not in range, its owner not listed, or a total above the ceiling.
-fn tally(mem: &[u64], desks: &mut [u16], ids: &mut [u16], sums: &mut [u64]) -> bool
-    requires listed { Listed mem.now }
-    requires in_bounds { 1024 ≤ length desks.old }
-    requires in_bounds_2 { 1024 ≤ length ids.old }
-    requires sums { Sums (rows_of mem.now) sums.old 0 }
-    ensures { Tallied mem.now sums.new result }
-{
-    let n = mem[books::PLACES_TAKEN] as usize;
-    let mut i = 0;
-    while i < n {
-        let k = desk_of(mem, desks, i);
-        if k >= mem[books::GROUPS_LISTED] as usize {
+impl Lists<'_> {
+    // Whether a place holds an order with figures in range and a listed symbol, or none and figures of 0.
+    #[tactic(auto, using(std::proofs::lemmas::Bool::Decides::nat_tests, crate::specs::Places::first_of, store::specs::Finding::first_symbol, rules::specs::Agreeing::is_order_is), unfolding(crate::specs::Places::figures_right, laws::specs::Checks::all_hold))]
+    fn order_ok(self, ids: &mut Hints, i: usize) -> bool
+        requires { i < room_of self.mem.now }
+        ensures { result ≡ figures_right self.entry.mem.now i }
+    {
+        let b = store::request_at(self.mem, i);
+        let o = store::order_at(self.mem, i);
+        if !rules::opens(self.mem, b) {
+            return rules::no_figures(self.mem, o);
+        }
+        if !rules::figures_ok(self.mem, o) {
             return false;
         }
-        if !place_ok(mem, ids, i) {
-            return false;
-        }
-        if !add_value(mem, i, k, sums) {
-            return false;
-        }
-        i += 1;
+        let symbol = self.mem[b + books::SYMBOL];
+        find_hinted(symbol_rows(self.mem), ids, symbol).is_some()
     }
-    true
-}
 
-// Whether each group's stored open values are the sums.
-fn sums_same(mem: &[u64], sums: &[u64]) -> bool
-    requires counted { Counted mem.now }
-    requires sums { Sums (rows_of mem.now) sums.now (head_in (rows_of mem.now) places_at) }
-    ensures { result ≡ every (sums_are (rows_of mem.now)) (head_in (rows_of mem.now) groups_at) }
-{
-    let n = mem[books::GROUPS_LISTED] as usize;
-    let mut g = 0;
-    while g < n {
+    // Whether a taken place's request is in range, and so is its order.
+    #[tactic(auto, unfolding(crate::specs::Places::place_ok, laws::specs::Checks::all_hold))]
+    fn place_ok(self, ids: &mut Hints, i: usize) -> bool
+        requires { i < room_of self.mem.now }
+        ensures { result ≡ place_ok self.entry.mem.now i }
+    {
+        rules::request_ok(self.mem, i, store::request_at(self.mem, i)) && self.order_ok(ids, i)
+    }
+
+    // The place among the groups of a taken place's owner.
+    #[tactic(auto, using(crate::specs::Places::first_of, store::specs::Finding::first_group))]
+    fn desk_of(self, desks: &mut Hints, i: usize) -> Option<usize>
+        requires { i < room_of self.mem.now }
+        ensures { result ≡ listed_at (desk_at self.entry.mem.now i) (head_in (rows_of self.entry.mem.now) groups_at) }
+    {
+        let owner = self.mem[books::KEYS + i * books::KEY_WORDS + books::OWNER];
+        find_hinted(group_rows(self.mem), desks, owner)
+    }
+
+    // The open value of the i-th place is added to its group's, which is the k-th. False where that passes the ceiling.
+    fn add_value(self, i: usize, k: usize, sums: &mut [Sides; books::MOST_GROUPS]) -> bool
+        requires due { Due self.mem.now i k }
+        requires sums { Sums (rows_of self.mem.now) sums.old i }
+        ensures { Added (rows_of self.entry.mem.now) sums.new (i + 1) result }
+    {
+        let b = store::request_at(self.mem, i);
+        if !rules::opens(self.mem, b) {
+            return true;
+        }
+        let v = value_of(self.mem, store::order_at(self.mem, i));
+        match sums[k].with(self.mem[b + books::SIDE], v) {
+            Some(more) => {
+                sums[k] = more;
+                true
+            }
+            None => false,
+        }
+    }
+
+    // The open values of each group, summed over the places, each of which is tried and its owner found. None where a place is not in range,
+    // its owner not listed, or a sum above the ceiling.
+    #[tactic(auto, using(crate::specs::Places::none_listed, crate::specs::Whole::unlisted, crate::specs::Whole::unfit, crate::specs::Whole::too_much, crate::specs::Whole::tallied))]
+    fn tally(self) -> Option<[Sides; books::MOST_GROUPS]>
+        ensures { Tallied self.entry.mem.now result }
+    {
+        let mut desks = hint_rows(group_rows(self.mem));
+        let mut ids = hint_rows(symbol_rows(self.mem));
+        let mut sums = [Sides { buys: 0, sells: 0 }; books::MOST_GROUPS];
+        for i in 0..self.mem[books::PLACES_TAKEN] as usize {
+            let k = self.desk_of(&mut desks, i)?;
+            if !self.place_ok(&mut ids, i) {
+                return None;
+            }
+            if !self.add_value(i, k, &mut sums) {
+                return None;
+            }
+        }
+        Some(sums)
+    }
+
+    // The open values that a group has stored.
+    fn stored(self, g: usize) -> Sides
+        requires { g < 64 }
+        ensures { result ≡ stored_in (rows_of self.entry.mem.now) g }
+    {
         let b = books::GROUPS + g * books::GROUP_WORDS;
-        if mem[b + books::OPEN_BUYS] != sums[g] {
-            return false;
+        Sides {
+            buys: self.mem[b + books::OPEN_BUYS],
+            sells: self.mem[b + books::OPEN_SELLS],
         }
-        if mem[b + books::OPEN_SELLS] != sums[books::MOST_GROUPS + g] {
-            return false;
-        }
-        g += 1;
     }
-    true
-}
 
-// Whether every taken place is in range and its owner listed, and the open values are the sums over the table.
-fn table_ok(mem: &[u64]) -> bool
-    requires { Listed mem.now }
-    ensures { result ≡ table_ok mem.now }
-{
-    let mut desks = [0u16; HINTS];
-    let mut ids = [0u16; HINTS];
-    let mut sums = [0u64; 2 * books::MOST_GROUPS];
-    hint_rows(
-        mem,
-        books::GROUPS,
-        books::GROUP_WORDS,
-        mem[books::GROUPS_LISTED] as usize,
-        &mut desks,
-    );
-    hint_rows(
-        mem,
-        books::SYMBOLS,
-        books::SYMBOL_WORDS,
-        mem[books::SYMBOLS_LISTED] as usize,
-        &mut ids,
-    );
-    if !tally(mem, &mut desks, &mut ids, &mut sums) {
-        return false;
+    // Whether each group's stored open values are the sums.
+    fn sums_same(self, sums: &[Sides; books::MOST_GROUPS]) -> bool
+        requires { Sums (rows_of self.mem.now) sums.now (head_in (rows_of self.mem.now) places_at) }
+        ensures { result ≡ every (sums_are (rows_of self.entry.mem.now)) (head_in (rows_of self.entry.mem.now) groups_at) }
+    {
+        (0..self.mem[books::GROUPS_LISTED] as usize).all(|g| self.stored(g) == sums[g])
     }
-    sums_same(mem, &sums)
+
+    // Whether every taken place is in range and its owner listed, and the open values are the sums over the table.
+    #[tactic(auto, using(crate::specs::Whole::table_compared, crate::specs::Whole::table_broken))]
+    fn table_ok(self) -> bool
+        ensures { result ≡ table_ok self.entry.mem.now }
+    {
+        // kept: tried, the proof didn't close: is_some_and, whose closure must ask for the sums as `sums_same` does
+        match self.tally() {
+            Some(sums) => self.sums_same(&sums),
+            None => false,
+        }
+    }
 }
 
 // Whether the listed groups and symbols are in range, and no two of either the same.
+#[tactic(auto, unfolding(crate::specs::Whole::listed_ok, laws::specs::Checks::all_hold))]
 fn listed_ok(mem: &[u64]) -> bool
     requires { Counted mem.now }
     ensures { result ≡ listed_ok mem.now }
 {
-    if !groups_ok(mem) {
-        return false;
-    }
-    if !symbols_ok(mem) {
-        return false;
-    }
-    if !chains::few_apart(
-        mem,
-        books::GROUPS,
-        books::GROUP_WORDS,
-        1,
-        mem[books::GROUPS_LISTED] as usize,
-    ) {
-        return false;
-    }
-    chains::few_apart(
-        mem,
-        books::SYMBOLS,
-        books::SYMBOL_WORDS,
-        1,
-        mem[books::SYMBOLS_LISTED] as usize,
-    )
+    groups_ok(mem)
+        && symbols_ok(mem)
+        && chains::few_apart(group_rows(mem))
+        && chains::few_apart(symbol_rows(mem))
 }
 
 // Whether the lent memory is long enough for groups and symbols, and its head, its lists and its table are in order: every state rule but that
 // no two places have one key.
+#[tactic(auto, using(std::proofs::lemmas::Bool::Decides::nat_tests, crate::specs::Whole::counted_head, crate::specs::Whole::listed_by), unfolding(crate::specs::Whole::parts_ok, laws::specs::Checks::all_hold))]
 pub fn parts_ok(mem: &[u64]) -> bool
     ensures { result ≡ parts_ok mem.now }
 {
-    if mem.len() < books::LEAST_WORDS {
-        return false;
-    }
-    if !rules::head_ok(mem) {
-        return false;
-    }
-    if !listed_ok(mem) {
-        return false;
-    }
-    table_ok(mem)
+    mem.len() >= books::LEAST_WORDS
+        && rules::head_ok(mem)
+        && listed_ok(mem)
+        && Lists { mem }.table_ok()
 }
 
 // Whether the lent memory meets every state rule and is long enough for groups and symbols: where not, the answer is 22.
+#[tactic(auto, using(crate::specs::Places::apart_of, crate::specs::Whole::parts_counted, crate::specs::Whole::by_keys, crate::specs::Whole::parts_bad))]
 pub fn state_ok(mem: &[u64]) -> bool
     ensures { result ≡ state_ok mem.now }
 {
-    if !parts_ok(mem) {
-        return false;
-    }
-    chains::rows_apart(
-        mem,
-        books::KEYS,
-        books::KEY_WORDS,
-        books::KEY_WORDS,
-        mem[books::PLACES_TAKEN] as usize,
-    )
+    parts_ok(mem) && chains::rows_apart(key_rows(mem))
 }

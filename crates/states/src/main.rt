@@ -13,12 +13,10 @@
 // and the file at most 262,144 bytes. For each case that is answered otherwise a line has its label.
 #![tactic(auto)]
 
-ghost use Rattle.std.specs.Prelude.{◌≡◌, ◌≤◌, max, length};
+ghost use Rattle.std.specs.Prelude.{◌≡◌, ◌-◌, ◌≤◌, length};
 
-use fields::Place;
+use std::fs;
 use std::rt::Files;
-use std::{fs, io};
-use store::Made;
 
 const WORDS: usize = 4096;
 
@@ -27,38 +25,26 @@ const TEXT_BYTES: usize = 262_144;
 // A word that is in range nowhere.
 const GARBAGE: u64 = u64::MAX;
 
-// A number of the file, and where it ends.
-#[derive(Clone, Copy)]
-struct Number {
-    value: u64,
-    end: usize,
-}
-
 // How many cases were answered as good, as 22, and otherwise than the file says.
-#[derive(Clone, Copy)]
+#[derive(Drop)]
 struct Tally {
     good: u64,
     refused: u64,
     differ: u64,
 }
 
-fn say(rt: &impl Print, text: &[u8]) {
-    let _ = rt.write_all(text);
+// What is left of a text after so many bytes.
+fn after(text: &[u8], count: usize) -> &[u8]
+    ensures { length result.now ≡ length text.now - count }
+{
+    &text[count.min(text.len())..]
 }
 
-fn say_number(rt: &impl Print, n: u64) {
-    let _ = rt.print(n);
-}
-
-fn one_more(count: u64) -> u64 {
-    std::num::wrapping_add_u64(count, 1)
-}
-
-// The number that a digit says, and 10 for any other byte.
-fn digit_value(byte: u8) -> u64 {
+// The number that a digit says.
+fn digit_value(byte: u8) -> Option<u64> {
     match byte {
-        b'0'..=b'9' => (byte - b'0') as u64,
-        _ => 10,
+        b'0'..=b'9' => Some(u64::from(byte - b'0')),
+        _ => None,
     }
 }
 
@@ -67,38 +53,29 @@ fn with_digit(value: u64, digit: u64) -> u64 {
     if value > u64::MAX / 10 {
         return value;
     }
-    std::num::wrapping_add_u64(value * 10, digit)
+    (value * 10).wrapping_add(digit)
 }
 
-// The number whose digits start at a place, and where they end; 0 where there are none.
-fn number_at(text: &[u8], at: usize) -> Number
-    ensures { (at ≤ result.end) × (result.end ≤ max at (length text.now)) }
+// The number whose digits a text begins with, 0 where there are none, and what is left after the byte that ends it.
+fn number(text: &[u8]) -> (u64, &[u8])
+    ensures { length result.1.now ≤ length text.now - 1 }
 {
     let mut value = 0;
-    let mut end = at;
-    while end < text.len() {
-        let digit = digit_value(text[end]);
-        if digit > 9 {
-            break;
+    for (i, byte) in text.iter().enumerate() {
+        match digit_value(*byte) {
+            Some(digit) => value = with_digit(value, digit),
+            None => return (value, after(text, i + 1)),
         }
-        value = with_digit(value, digit);
-        end += 1;
     }
-    Number { value, end }
+    (value, after(text, text.len()))
 }
 
-// Where the part of a line that starts at a place ends: at the next space, or with the line.
-fn part_end(text: &[u8], at: usize) -> usize
-    ensures { result ≤ max at (length text.now) }
-{
-    let mut end = at;
-    while end < text.len() {
-        if text[end] == b' ' {
-            break;
-        }
-        end += 1;
+// The part that a text begins with, up to the next space, and what is left after that.
+fn part(text: &[u8]) -> (&[u8], &[u8]) {
+    match text.iter().position(|byte| *byte == b' ') {
+        Some(end) => (&text[..end], after(text, end + 1)),
+        None => (text, after(text, text.len())),
     }
-    end
 }
 
 // Sets a word. One past the end is left out.
@@ -108,115 +85,86 @@ fn set_word(mem: &mut [u64; WORDS], index: u64, word: u64) {
     }
 }
 
-// Sets the words that a line names from a place on, each as INDEX=WORD.
-fn set_words(mem: &mut [u64; WORDS], line: &[u8], from: usize) {
-    let mut at = from;
-    while at < line.len() {
-        let index = number_at(line, at);
-        let word = number_at(line, index.end + 1);
-        set_word(mem, index.value, word.value);
-        at = word.end + 1;
+// Sets the words that a text names, each as INDEX=WORD.
+fn set_words(mem: &mut [u64; WORDS], text: &[u8]) {
+    let mut rest = text;
+    // kept: no plainer: a turn takes as many bytes as its two numbers have
+    while !rest.is_empty() {
+        let (index, after_index) = number(rest);
+        let (word, after_word) = number(after_index);
+        set_word(mem, index, word);
+        rest = after_word;
     }
 }
 
-fn fill(mem: &mut [u64], word: u64) {
-    let mut i = 0;
-    while i < mem.len() {
-        mem[i] = word;
-        i += 1;
-    }
-}
-
-// The base that a line says.
+// The base that a line says after its first five bytes.
 fn set_base(base: &mut [u64; WORDS], line: &[u8]) {
-    let word = number_at(line, 5);
-    fill(base, word.value);
-    set_words(base, line, word.end + 1);
+    let (word, words) = number(after(line, 5));
+    base.fill(word);
+    set_words(base, words);
 }
 
-// What is answered of the first so many words: 1 if they are a state, 0 if not, and 2 if there are
-// not so many.
-fn answer(mem: &[u64; WORDS], length: u64) -> u64 {
-    let words: &[u64] = mem;
-    if length > words.len() as u64 {
-        return 2;
+// Whether the first so many words are a state, or none if there are not so many.
+fn answer(mem: &[u64; WORDS], length: u64) -> Option<bool> {
+    if length > WORDS as u64 {
+        return None;
     }
-    let end = length as usize;
-    if state::state_ok(&words[0..end]) {
-        1
-    } else {
-        0
+    Some(state::state_ok(&mem[..length as usize]))
+}
+
+impl Tally {
+    // One more answer.
+    fn count(&mut self, said: Option<bool>) {
+        match said {
+            Some(true) => self.good = self.good.wrapping_add(1),
+            Some(false) | None => self.refused = self.refused.wrapping_add(1),
+        }
+    }
+
+    // One more that differs, whose label is said.
+    fn count_differing(&mut self, rt: &impl Print, label: &[u8]) {
+        let _ = rt.write_all(label);
+        let _ = println!(rt);
+        self.differ = self.differ.wrapping_add(1);
     }
 }
 
-// The tally with one more answer.
-fn tallied(tally: Tally, said: u64) -> Tally {
-    let mut t = tally;
-    if said == 1 {
-        t.good = one_more(t.good);
-    } else {
-        t.refused = one_more(t.refused);
-    }
-    t
-}
-
-// The tally with one more that differs, whose label is said.
-fn differing(rt: &impl Print, tally: Tally, label: &[u8]) -> Tally {
-    say(rt, label);
-    say(rt, b"\n");
-    let mut t = tally;
-    t.differ = one_more(t.differ);
-    t
-}
-
-fn test_case(rt: &impl Print, base: &[u64; WORDS], line: &[u8], tally: Tally) -> Tally {
-    let expected = number_at(line, 0);
-    let length = number_at(line, expected.end + 1);
-    let from = length.end + 1;
-    let to = part_end(line, from);
+// A case: what is answered is held against what the line says, 1 or 0, and 2 where there are not so many words.
+fn test_case(rt: &impl Print, base: &[u64; WORDS], line: &[u8], tally: &mut Tally) {
+    let (expected, rest) = number(line);
+    let (length, rest) = number(rest);
+    let (label, words) = part(rest);
     let mut mem = *base;
-    set_words(&mut mem, line, to + 1);
-    let said = answer(&mem, length.value);
-    let t = tallied(tally, said);
-    if said == expected.value {
-        return t;
+    set_words(&mut mem, words);
+    let said = answer(&mem, length);
+    tally.count(said);
+    if said.map_or(2, u64::from) != expected {
+        tally.count_differing(rt, label);
     }
-    differing(rt, t, fields::part(line, Place { from, to }))
 }
 
 // A line of the file.
-fn test_line(rt: &impl Print, base: &mut [u64; WORDS], line: &[u8], tally: Tally) -> Tally {
-    match fields::byte_at(line, 0) {
-        b'#' => tally,
-        b'b' => {
-            set_base(base, line);
-            tally
-        }
+fn test_line(rt: &impl Print, base: &mut [u64; WORDS], line: &[u8], tally: &mut Tally) {
+    match line.first() {
+        Some(b'#') => {}
+        Some(b'b') => set_base(base, line),
         _ => test_case(rt, base, line, tally),
     }
 }
 
 fn test_lines(rt: &impl Print, text: &[u8]) -> Tally {
-    let mut base = [0u64; WORDS];
+    let mut base = [0; WORDS];
     let mut tally = Tally {
         good: 0,
         refused: 0,
         differ: 0,
     };
-    let mut start = 0;
-    for end in 0..text.len() {
-        if text[end] == b'\n' {
-            tally = test_line(rt, &mut base, &text[start..end], tally);
-            start = end + 1;
+    for line in text.split_inclusive(|byte| *byte == b'\n') {
+        if let Some(line) = line.strip_suffix(b"\n") {
+            test_line(rt, &mut base, line, &mut tally);
         }
     }
     tally
-}
-
-fn text_buffer() -> [u8; TEXT_BYTES]
-    ensures { 262_144 ≡ length result }
-{
-    [0; TEXT_BYTES]
 }
 
 fn test_states(rt: &(impl Files + Print + Eprint)) {
@@ -227,73 +175,39 @@ fn test_states(rt: &(impl Files + Print + Eprint)) {
             return;
         }
     };
-    let mut text = text_buffer();
+    let mut text = [0; TEXT_BYTES];
     let count = input::read_full(&mut file, &mut text);
-    let tally = test_lines(rt, &text[..count]);
-    say(rt, b"states: ");
-    say_number(rt, tally.good);
-    say(rt, b" good, ");
-    say_number(rt, tally.refused);
-    say(rt, b" refused, ");
-    say_number(rt, tally.differ);
-    say(rt, b" differ\n");
-}
-
-// Whether every word from a place up to another is the one named.
-fn all_are(mem: &[u64], from: usize, to: usize, word: u64) -> bool {
-    let mut i = from;
-    while i < to {
-        if i >= mem.len() {
-            return false;
-        }
-        if mem[i] != word {
-            return false;
-        }
-        i += 1;
-    }
-    true
-}
-
-// Has a fresh state made in the first so many words, and answers whether it was.
-fn is_made(mem: &mut [u64], words: usize) -> bool {
-    if words > mem.len() {
-        return false;
-    }
-    match store::make_fresh(&mut mem[0..words]) {
-        Made::Done => true,
-        Made::TooShort => false,
-    }
+    let Tally {
+        good,
+        refused,
+        differ,
+    } = test_lines(rt, &text[..count]);
+    let _ = println!(rt; "states: {good} good, {refused} refused, {differ} differ");
 }
 
 // Whether in so many words of garbage a fresh state is made or not, as said: if it is, every one of
 // them is 0 and they are a state, and if not, none has changed. The words after them never change.
-fn is_fresh_as_said(words: usize, long_enough: bool) -> bool {
+fn is_fresh_as_said(words: usize, long_enough: bool) -> bool
+    requires { words ≤ 4096 }
+{
     let mut mem = [GARBAGE; WORDS];
-    let made = is_made(&mut mem, words);
-    if made != long_enough {
-        return false;
-    }
+    let made = store::make_fresh(&mut mem[..words]).is_ok();
     let lent = if made { 0 } else { GARBAGE };
-    if !all_are(&mem, 0, words, lent) {
-        return false;
-    }
-    if !all_are(&mem, words, WORDS, GARBAGE) {
-        return false;
-    }
-    if !made {
-        return true;
-    }
-    answer(&mem, words as u64) == 1
+    made == long_enough
+        && mem[..words].iter().all(|word| *word == lent)
+        && mem[words..].iter().all(|word| *word == GARBAGE)
+        && (!made || answer(&mem, words as u64) == Some(true))
 }
 
-fn test_fresh(rt: &impl Print, words: usize, long_enough: bool) {
-    say(rt, b"fresh: ");
-    say_number(rt, words as u64);
-    if is_fresh_as_said(words, long_enough) {
-        say(rt, b" words as said\n");
+fn test_fresh(rt: &impl Print, words: usize, long_enough: bool)
+    requires { words ≤ 4096 }
+{
+    let said = if is_fresh_as_said(words, long_enough) {
+        "as said"
     } else {
-        say(rt, b" words otherwise\n");
-    }
+        "otherwise"
+    };
+    let _ = println!(rt; "fresh: {words} words {said}");
 }
 
 // Making a fresh state, in memories that are too short for groups and symbols (23) and in ones that

@@ -1,6 +1,6 @@
--- `states::set_words` is safe and ends: each turn passes one byte of the line or more.
-use Rattle.std.proofs.Common.{◌-◌, length}
+-- `states::set_words` ends: each turn passes one byte of the text or more.
+use Rattle.std.proofs.Common.{length}
 use Rattle.states.proofs.set_words.Given as goal
 
-abbrev pub decreases-loop-at : goal.decreases-loop-at
-decreases-loop-at l = length l.line - l.at
+abbrev pub decreases-loop-rest : goal.decreases-loop-rest
+decreases-loop-rest l = length l.rest
