@@ -1,9 +1,11 @@
 -- Document 01, "Price protection takes its row by the order's own price": the code's table of six rows. Its bounds are tested once to
 -- ascend, so a row takes the prices from the bound before its own up to its own.
-use Rattle.std.specs.Prelude.{◌≡◌, refl, true, cond, List, [], ◌∷◌, ◌++◌, map, ℕ, zero, suc, ◌+◌, ◌≤◌, ◌<◌, ltb, length}
-use Rattle.std.proofs.Common.{sym, ap, subst, ◌∙◌, arith, add-one, ltb-true, lt-ltb, le-ltb}
+use Rattle.std.specs.Prelude.{◌≡◌, refl, true, cond, List, [], ◌∷◌, ◌++◌, map, ℕ, zero, suc, ◌≤◌, ◌<◌, ltb, length}
+use Rattle.std.proofs.Common.{sym, ap, ◌∙◌, arith, ltb-true, lt-ltb, le-ltb}
 use Rattle.std.proofs.Math.Bool.{and-eq-true_iff}
-use Rattle.std.proofs.Math.Decide.{dec_lt}
+use Rattle.std.specs.List.{find}
+use Rattle.std.specs.Option.{unwrap_or}
+use Rattle.std.specs.Prelude.{Some}
 use Rattle.laws.specs.Tests.{on}
 use Rattle.rulebook.specs.Prices.{Row, row, rows, row_in}
 use Rattle.checks.specs.declared.Row.{Row as RowWords}
@@ -44,13 +46,6 @@ row_taken (a ∷ l) e p (suc i) h s b = rw (le-ltb p a.bound (reached i h s)) (r
     rest zero s = omega arith
     rest (suc i) s = s
 
--- a price that is not below a row's bound is among the prices of a later one
-pub row_later : (p i : ℕ) → p ≤ 999_999_999_999 → i < 6 → (row_at table i).bound ≤ p → (i + 1 < 6) × (start table (i + 1) ≤ p)
-row_later p i most h b = (elim (dec_lt i 5) [ yes lt ↦ omega arith | no ge ↦ absurd (last (omega arith)) ], rw add-one b)
-  where
-    last : i ≡ 5 → ⊥
-    last e = let q : (row_at table 5).bound ≤ p = subst (λ (i : ℕ). (row_at table i).bound ≤ p) e b in omega arith
-
 -- "otherwise" is a row whose bound no price reaches
 otherwise_last : (p b : ℕ) (l : List Row) → terms (row_in p (l ++ (row b 3 25_000_000 ∷ []))) ≡ terms (row_in p l)
 otherwise_last p b [] = on (λ t. terms (cond t (row b 3 25_000_000) (row 0 3 25_000_000)) ≡ row 0 3 25_000_000) (ltb p b) (λ e. refl) (λ e. refl)
@@ -60,3 +55,17 @@ otherwise_last p b (row below c d ∷ l) = on (λ t. terms (cond t (row below c 
 pub row_right : (p i : ℕ) → i < 6 → start table i ≤ p → p < (row_at table i).bound → terms (row_said (row_at table i)) ≡ terms (row_in p rows)
 unfolding rows
 row_right p i h s b = ap terms (sym (row_taken table table_ascends p i h s b)) ∙ otherwise_last p 1_000_000_000_000 rows
+
+-- the last row, which is for the prices that no bound is above
+abbrev pub last : RowWords
+last = row_at table 5
+
+-- what a search for a bound above a price finds says the row of the price; where it finds none, the last row says "otherwise"
+found_in : (p : ℕ) (l : List RowWords) → terms (row_said (unwrap_or (find (λ r. ltb p r.bound) l) last)) ≡ terms (row_in p (map row_said l))
+found_in p [] = refl
+found_in p (a ∷ l) = on (λ t. terms (row_said (unwrap_or (cond t (Some a) (find (λ r. ltb p r.bound) l)) last)) ≡ terms (cond t (row_said a) (row_in p (map row_said l)))) (ltb p a.bound) (λ e. refl) (λ e. found_in p l)
+
+-- THEOREM. The first row of the table whose bound is above a price has the percent and the dollar part of document 01's
+pub found_right : (p : ℕ) → terms (row_said (unwrap_or (find (λ r. ltb p r.bound) table) last)) ≡ terms (row_in p rows)
+unfolding rows
+found_right p = found_in p table ∙ otherwise_last p 1_000_000_000_000 rows

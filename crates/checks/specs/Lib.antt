@@ -1,3 +1,4 @@
+pub mod Refusing
 pub mod Saying
 pub mod Sides
 pub mod Protection

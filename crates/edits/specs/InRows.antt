@@ -4,6 +4,7 @@ use Rattle.laws.specs.Tables.{sum, Shift, stay, adds, puts, shifted}
 use Rattle.laws.specs.Rows.{Sheet}
 use Rattle.rulebook.specs.Names as names
 use Rattle.rulebook.specs.Names.{Mpid}
+use Rattle.rulebook.specs.Lines as lines
 use Rattle.rulebook.specs.Lines.{Deal}
 use Rattle.rulebook.specs.Kept as kept
 use Rattle.rulebook.specs.Kept.{Order, Group, Symbol, by_key, worth}
@@ -11,6 +12,7 @@ use Rattle.rulebook.specs.Judging as judging
 use Rattle.rulebook.specs.Judging.{nothing, opened, listed, remembered, taken}
 use Rattle.books.specs.View.{orders_in}
 use Rattle.books.specs.Writing.{group_index, symbol_index, order_index, said}
+use Rattle.books.specs.declared.Terms.{Terms}
 use Rattle.packing.specs.declared.Ident.{Ident}
 use Rattle.store.specs.declared.Key.{Key}
 use Rattle.checks.specs.declared.Figures.{Figures}
@@ -34,6 +36,9 @@ figure_words f = record { price = f.price; size = f.size; done = f.done; asked =
 abbrev pub asking_words : Deal → Asking
 asking_words d = let q = said d in record { kind = q.kind; target = ident_words q.target; sym = q.sym; side = q.side; size = q.size; price = q.price }
 
+abbrev pub terms_words : lines.Terms → Terms
+terms_words t = let l = t.limits in record { gross_trade = l.gross_trade; net_trade = l.net_trade; gross_open = l.gross_open; net_open = l.net_open; gross_both = l.gross_both; net_both = l.net_both; max_size = t.max_size; short_sales = t.short_sales }
+
 -- ── by rows ──
 -- the open values of an order's desk, over the orders as they are after
 abbrev pub open_after : Sheet → Mpid → Shift Order → Bool → ℕ
@@ -48,8 +53,7 @@ order_in_rows S (puts o) = let m = o.ticket.key.owner.mpid in
 
 abbrev pub group_in_rows : Sheet → Shift Group → GroupShift
 group_in_rows S stay = GroupShift.Stay
-group_in_rows S (adds g) = let l = g.terms.limits in
-    GroupShift.Adds g.mpid.code l.gross_trade l.net_trade l.gross_open l.net_open l.gross_both l.net_both g.terms.max_size g.terms.short_sales g.blocked g.traded_buys g.traded_sells
+group_in_rows S (adds g) = GroupShift.Adds g.mpid.code (terms_words g.terms) g.blocked g.traded_buys g.traded_sells
 group_in_rows S (puts g) = GroupShift.Puts (group_index S g.mpid) g.blocked g.traded_buys g.traded_sells
 
 abbrev pub symbol_in_rows : Sheet → Shift Symbol → SymbolShift

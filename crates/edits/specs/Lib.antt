@@ -1,3 +1,4 @@
 pub mod InRows
 pub mod Storing
+pub mod Lending
 pub mod Parts

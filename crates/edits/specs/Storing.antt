@@ -41,13 +41,13 @@ order_stored (OrderShift.Puts i f g ob os) = figures_stored i f ++ open_stored g
 -- the row of a group listed, with open values of 0
 unfoldable pub group_row : GroupShift → List ℕ
 group_row GroupShift.Stay = replicate (width_of groups) 0
-group_row (GroupShift.Adds m a b c d e f z x y tb ts) = m ∷ a ∷ b ∷ c ∷ d ∷ e ∷ f ∷ z ∷ bit x ∷ bit y ∷ tb ∷ ts ∷ 0 ∷ 0 ∷ []
+group_row (GroupShift.Adds m t b tb ts) = m ∷ t.gross_trade ∷ t.net_trade ∷ t.gross_open ∷ t.net_open ∷ t.gross_both ∷ t.net_both ∷ t.max_size ∷ bit t.short_sales ∷ bit b ∷ tb ∷ ts ∷ 0 ∷ 0 ∷ []
 group_row (GroupShift.Puts g b tb ts) = replicate (width_of groups) 0
 
 -- listed after so many
 unfoldable pub group_stored : ℕ → GroupShift → List Store
 group_stored n GroupShift.Stay = []
-group_stored n (GroupShift.Adds m a b c d e f z x y tb ts) = store_at groups n mpid_at (group_row (GroupShift.Adds m a b c d e f z x y tb ts)) ∷ head_store groups_at (suc n) ∷ []
+group_stored n (GroupShift.Adds m t b tb ts) = store_at groups n mpid_at (group_row (GroupShift.Adds m t b tb ts)) ∷ head_store groups_at (suc n) ∷ []
 group_stored n (GroupShift.Puts g b tb ts) = store_at groups g blocked_at (bit b ∷ tb ∷ ts ∷ []) ∷ []
 
 unfoldable pub symbol_stored : ℕ → SymbolShift → List Store

@@ -1,19 +1,21 @@
 // What judging changes, by the rows that it found, and the lent words after it.
 #![tactic(auto)]
 
-ghost use Rattle.std.specs.Prelude.{◌≡◌, ◌+◌, ◌*◌, ◌≤◌, length};
-ghost use Rattle.std.proofs.lemmas.List.Edits.{sets};
-ghost use Rattle.laws.specs.Rows.{sheet, run};
-ghost use Rattle.books.specs.Layout.{layout, room_of, last_at};
+ghost use Rattle.std.specs.Prelude.{◌≡◌, ◌≤◌, [], ◌∷◌};
+ghost use Rattle.laws.specs.Rows.{sheet, run, region};
+ghost use Rattle.books.specs.Layout.{layout, room_of, width_of, last_at};
 ghost use Rattle.books.specs.View.{head_in, rows_of};
-ghost use Rattle.books.specs.Writing.{bit};
-ghost use Rattle.edits.specs.Storing.{figures_stored, open_stored, order_stored, group_row, group_stored, symbol_stored, deed_stored, born, asked_stored, place_stored, edit_stored, Storable};
+ghost use Rattle.books.specs.Writing.{store_at, head_store};
+ghost use Rattle.edits.specs.Storing.{figures_stored, open_stored, order_stored, group_stored, symbol_stored, deed_stored, born, asked_stored, place_stored, edit_stored, Storable};
+ghost use Rattle.edits.specs.Lending.{number_in, CanStore, Stores};
 
+use books::Terms;
 use checks::Figures;
 use packing::Ident;
 use store::Key;
 
 // What a request asks for, as the table keeps it: 0 for a field that its kind has not.
+// kept: letters and 0 in place of an enum, since these are the words of a request's row; what may not change: `said` and `asking_words`.
 #[derive(Clone, Copy)]
 pub struct Asking {
     pub kind: u64,
@@ -49,14 +51,7 @@ pub enum GroupShift {
     Stay,
     Adds {
         mpid: u64,
-        gross_trade: u64,
-        net_trade: u64,
-        gross_open: u64,
-        net_open: u64,
-        gross_both: u64,
-        net_both: u64,
-        max_size: u64,
-        short_sales: bool,
+        terms: Terms,
         blocked: bool,
         traded_buys: u64,
         traded_sells: u64,
@@ -85,6 +80,13 @@ pub struct Deed {
     pub symbol: SymbolShift,
 }
 
+// A deed by which nothing is changed.
+pub const IDLE: Deed = Deed {
+    order: OrderShift::Stay,
+    group: GroupShift::Stay,
+    symbol: SymbolShift::Stay,
+};
+
 // The column "effect" of document 01's table of outcomes.
 #[derive(Clone, Copy)]
 pub enum Edit {
@@ -104,210 +106,46 @@ pub enum Edit {
     },
 }
 
-// A mark as a word.
-fn bit(x: bool) -> u64
-    ensures { result ≡ bit x }
-{
-    if x {
-        return 1;
-    }
-    0
+// The regions of the lent words.
+#[derive(Clone, Copy)]
+enum Region {
+    Heads,
+    Groups,
+    Symbols,
+    Keys,
+    Requests,
+    Orders,
 }
 
-// The words stored in a row of a region from a cell on, and nothing else.
-fn put_cells(mem: &mut [u64], base: usize, width: usize, line: usize, from: usize, words: &[u64])
-    requires { base + line * width + from + length words.now ≤ length mem.old }
-    ensures { mem.new ≡ sets mem.old (base + line * width + from) words.now }
-{
-    store::put_row(mem, base + line * width + from, words);
-}
-
-// An order's figures stored in its row.
-fn put_figures(mem: &mut [u64], room: usize, order: usize, figures: Figures)
-    requires { Storable room mem.old (figures_stored order figures) }
-    ensures { mem.new ≡ run (layout room) (figures_stored order figures) mem.old }
-{
-    let words = [
-        figures.price,
-        figures.size,
-        figures.done,
-        bit(figures.asked),
-    ];
-    let orders = books::KEYS + room * books::KEY_WORDS + room * books::REQUEST_WORDS;
-    put_cells(
-        mem,
-        orders,
-        books::ORDER_WORDS,
-        order,
-        books::ORDER_PRICE,
-        &words,
-    );
-}
-
-// A group's open values stored in its row.
-fn put_open(mem: &mut [u64], room: usize, group: usize, buys: u64, sells: u64)
-    requires { Storable room mem.old (open_stored group buys sells) }
-    ensures { mem.new ≡ run (layout room) (open_stored group buys sells) mem.old }
-{
-    put_cells(
-        mem,
-        books::GROUPS,
-        books::GROUP_WORDS,
-        group,
-        books::OPEN_BUYS,
-        &[buys, sells],
-    );
-}
-
-// An order amended, and the open values of its desk; of a new order those values alone, since its figures come with its place. Nothing where there is neither.
-fn put_order(mem: &mut [u64], room: usize, shift: OrderShift)
-    requires { Storable room mem.old (order_stored shift) }
-    ensures { mem.new ≡ run (layout room) (order_stored shift) mem.old }
-{
-    match shift {
-        OrderShift::Stay => {}
-        OrderShift::Adds {
-            group,
-            open_buys,
-            open_sells,
-            ..
-        } => put_open(mem, room, group, open_buys, open_sells),
-        OrderShift::Puts {
-            order,
-            figures,
-            group,
-            open_buys,
-            open_sells,
-        } => {
-            put_figures(mem, room, order, figures);
-            put_open(mem, room, group, open_buys, open_sells);
+impl Region {
+    // The words of a row.
+    fn width(self) -> usize
+        ensures { result ≡ width_of (number_in self) }
+    {
+        match self {
+            Region::Heads => books::HEAD_WORDS,
+            Region::Groups => books::GROUP_WORDS,
+            Region::Symbols => books::SYMBOL_WORDS,
+            Region::Keys => books::KEY_WORDS,
+            Region::Requests => books::REQUEST_WORDS,
+            Region::Orders => books::ORDER_WORDS,
         }
     }
-}
 
-// The row of a group listed, with open values of 0; zeros where none is listed.
-fn group_row(shift: GroupShift) -> [u64; books::GROUP_WORDS]
-    ensures { result ≡ group_row shift }
-{
-    match shift {
-        GroupShift::Stay => [0; books::GROUP_WORDS],
-        GroupShift::Adds {
-            mpid,
-            gross_trade,
-            net_trade,
-            gross_open,
-            net_open,
-            gross_both,
-            net_both,
-            max_size,
-            short_sales,
-            blocked,
-            traded_buys,
-            traded_sells,
-        } => [
-            mpid,
-            gross_trade,
-            net_trade,
-            gross_open,
-            net_open,
-            gross_both,
-            net_both,
-            max_size,
-            bit(short_sales),
-            bit(blocked),
-            traded_buys,
-            traded_sells,
-            0,
-            0,
-        ],
-        GroupShift::Puts { .. } => [0; books::GROUP_WORDS],
-    }
-}
-
-// A group listed after so many, and the count raised; or a group's block and traded values. Nothing where neither is.
-fn put_group(mem: &mut [u64], room: usize, listed: usize, shift: GroupShift)
-    requires { Storable room mem.old (group_stored listed shift) }
-    ensures { mem.new ≡ run (layout room) (group_stored listed shift) mem.old }
-{
-    match shift {
-        GroupShift::Stay => {}
-        GroupShift::Adds { .. } => {
-            let count = (listed + 1) as u64;
-            let words = group_row(shift);
-            put_cells(
-                mem,
-                books::GROUPS,
-                books::GROUP_WORDS,
-                listed,
-                books::GROUP_MPID,
-                &words,
-            );
-            store::put_row(mem, books::GROUPS_LISTED, &[count]);
-        }
-        GroupShift::Puts {
-            group,
-            blocked,
-            traded_buys,
-            traded_sells,
-        } => {
-            let words = [bit(blocked), traded_buys, traded_sells];
-            put_cells(
-                mem,
-                books::GROUPS,
-                books::GROUP_WORDS,
-                group,
-                books::BLOCKED,
-                &words,
-            );
+    // Where its rows begin, in words with room for so many places.
+    fn base(self, room: usize) -> usize
+        requires { room ≤ 65_535 }
+        ensures { result ≡ (region (layout room) (number_in self)).base }
+    {
+        match self {
+            Region::Heads => 0,
+            Region::Groups => books::GROUPS,
+            Region::Symbols => books::SYMBOLS,
+            Region::Keys => books::KEYS,
+            Region::Requests => books::KEYS + room * books::KEY_WORDS,
+            Region::Orders => books::KEYS + room * books::KEY_WORDS + room * books::REQUEST_WORDS,
         }
     }
-}
-
-// A symbol listed after so many, and the count raised; or a symbol's quotes. Nothing where neither is.
-fn put_symbol(mem: &mut [u64], room: usize, listed: usize, shift: SymbolShift)
-    requires { Storable room mem.old (symbol_stored listed shift) }
-    ensures { mem.new ≡ run (layout room) (symbol_stored listed shift) mem.old }
-{
-    match shift {
-        SymbolShift::Stay => {}
-        SymbolShift::Adds { id, bid, offer } => {
-            let count = (listed + 1) as u64;
-            put_cells(
-                mem,
-                books::SYMBOLS,
-                books::SYMBOL_WORDS,
-                listed,
-                books::SYMBOL_ID,
-                &[id, bid, offer],
-            );
-            store::put_row(mem, books::SYMBOLS_LISTED, &[count]);
-        }
-        SymbolShift::Puts { symbol, bid, offer } => {
-            put_cells(
-                mem,
-                books::SYMBOLS,
-                books::SYMBOL_WORDS,
-                symbol,
-                books::BID,
-                &[bid, offer],
-            );
-        }
-    }
-}
-
-// A deed stored: its order, its group and its symbol, by the counts as they were before it.
-fn put_deed(mem: &mut [u64], room: usize, deed: Deed)
-    requires { Storable room mem.old (deed_stored (sheet (layout room) mem.old) deed) }
-    ensures { mem.new ≡ run (layout room) (deed_stored (sheet (layout room) mem.old) deed) mem.old }
-{
-    let groups = mem[books::GROUPS_LISTED] as usize;
-    let symbols = mem[books::SYMBOLS_LISTED] as usize;
-    let order = deed.order;
-    let group = deed.group;
-    let symbol = deed.symbol;
-    put_order(mem, room, order);
-    put_group(mem, room, groups, group);
-    put_symbol(mem, room, symbols, symbol);
 }
 
 // The figures that a place is taken with: those of a new order; 0 and no cancel asked where there is none.
@@ -315,14 +153,8 @@ fn born_figures(shift: OrderShift) -> Figures
     ensures { result ≡ born shift }
 {
     match shift {
-        OrderShift::Stay => Figures {
-            price: 0,
-            size: 0,
-            done: 0,
-            asked: false,
-        },
         OrderShift::Adds { figures, .. } => figures,
-        OrderShift::Puts { .. } => Figures {
+        OrderShift::Stay | OrderShift::Puts { .. } => Figures {
             price: 0,
             size: 0,
             done: 0,
@@ -331,58 +163,232 @@ fn born_figures(shift: OrderShift) -> Figures
     }
 }
 
-// A place's key, and its request with the number remembered, stored in their rows.
-fn put_asked(mem: &mut [u64], room: usize, place: usize, key: Key, asking: Asking, number: u64)
-    requires { Storable room mem.old (asked_stored place key asking number) }
-    ensures { mem.new ≡ run (layout room) (asked_stored place key asking number) mem.old }
-{
-    let requests = books::KEYS + room * books::KEY_WORDS;
-    let request = [
-        asking.kind,
-        number,
-        asking.target.head,
-        asking.target.middle,
-        asking.target.tail,
-        asking.sym,
-        asking.side,
-        asking.size,
-        asking.price,
-    ];
-    put_cells(
-        mem,
-        books::KEYS,
-        books::KEY_WORDS,
-        place,
-        books::OWNER,
-        &[key.owner, key.name.head, key.name.middle, key.name.tail],
-    );
-    put_cells(
-        mem,
-        requests,
-        books::REQUEST_WORDS,
-        place,
-        books::KIND,
-        &request,
-    );
+// The lent words, and how many places they have room for.
+#[derive(Drop)]
+struct Lent<'a> {
+    mem: &'a mut [u64],
+    room: usize,
 }
 
-// A place taken, with its request and its figures, and the count raised.
-fn put_place(
-    mem: &mut [u64],
-    room: usize,
-    place: usize,
-    key: Key,
-    asking: Asking,
-    number: u64,
-    figures: Figures,
-)
-    requires { Storable room mem.old (place_stored place key asking number figures) }
-    ensures { mem.new ≡ run (layout room) (place_stored place key asking number figures) mem.old }
-{
-    let count = (place + 1) as u64;
-    put_asked(mem, room, place, key, asking, number);
-    put_figures(mem, room, place, figures);
-    store::put_row(mem, books::PLACES_TAKEN, &[count]);
+impl Lent<'_> {
+    // Words in a row of a region from a cell on, and nothing else.
+    fn put(&mut self, region: Region, line: usize, from: usize, words: &[u64])
+        requires { CanStore self.old (store_at (number_in region) line from words.now ∷ []) }
+        ensures { Stores self.old self.new (store_at (number_in region) line from words.now ∷ []) }
+    {
+        let at = region.base(self.room) + line * region.width() + from;
+        store::put_row(self.mem, at, words);
+    }
+
+    // A word of the head.
+    fn put_head(&mut self, from: usize, word: u64)
+        requires { CanStore self.old (head_store from word ∷ []) }
+        ensures { Stores self.old self.new (head_store from word ∷ []) }
+    {
+        self.put(Region::Heads, 0, from, &[word]);
+    }
+
+    // An order's figures.
+    #[tactic(auto, unfolding(crate::specs::Storing::figures_stored))]
+    fn put_figures(&mut self, order: usize, figures: Figures)
+        requires { CanStore self.old (figures_stored order figures) }
+        ensures { Stores self.old self.new (figures_stored order figures) }
+    {
+        let words = [
+            figures.price,
+            figures.size,
+            figures.done,
+            u64::from(figures.asked),
+        ];
+        self.put(Region::Orders, order, books::ORDER_PRICE, &words);
+    }
+
+    // A group's open values.
+    #[tactic(auto, unfolding(crate::specs::Storing::open_stored))]
+    fn put_open(&mut self, group: usize, buys: u64, sells: u64)
+        requires { CanStore self.old (open_stored group buys sells) }
+        ensures { Stores self.old self.new (open_stored group buys sells) }
+    {
+        self.put(Region::Groups, group, books::OPEN_BUYS, &[buys, sells]);
+    }
+
+    // An order amended, and the open values of its desk; of a new order those values alone, since its figures come with its place. Nothing where there is neither.
+    #[tactic(auto, using(crate::specs::Parts::in_parts), unfolding(crate::specs::Storing::order_stored))]
+    fn put_order(&mut self, shift: OrderShift)
+        requires { CanStore self.old (order_stored shift) }
+        ensures { Stores self.old self.new (order_stored shift) }
+    {
+        match shift {
+            OrderShift::Stay => {}
+            OrderShift::Adds {
+                group,
+                open_buys,
+                open_sells,
+                ..
+            } => self.put_open(group, open_buys, open_sells),
+            OrderShift::Puts {
+                order,
+                figures,
+                group,
+                open_buys,
+                open_sells,
+            } => {
+                self.put_figures(order, figures);
+                self.put_open(group, open_buys, open_sells);
+            }
+        }
+    }
+
+    // A group listed after so many, with open values of 0, and the count raised; or a group's block and traded values. Nothing where neither is.
+    #[tactic(auto, using(crate::specs::Parts::in_parts), unfolding(crate::specs::Storing::group_stored, crate::specs::Storing::group_row))]
+    fn put_group(&mut self, listed: usize, shift: GroupShift)
+        requires { CanStore self.old (group_stored listed shift) }
+        ensures { Stores self.old self.new (group_stored listed shift) }
+    {
+        match shift {
+            GroupShift::Stay => {}
+            GroupShift::Adds {
+                mpid,
+                terms,
+                blocked,
+                traded_buys,
+                traded_sells,
+            } => {
+                let count = (listed + 1) as u64;
+                let words = [
+                    mpid,
+                    terms.gross_trade,
+                    terms.net_trade,
+                    terms.gross_open,
+                    terms.net_open,
+                    terms.gross_both,
+                    terms.net_both,
+                    terms.max_size,
+                    u64::from(terms.short_sales),
+                    u64::from(blocked),
+                    traded_buys,
+                    traded_sells,
+                    0,
+                    0,
+                ];
+                self.put(Region::Groups, listed, books::GROUP_MPID, &words);
+                self.put_head(books::GROUPS_LISTED, count);
+            }
+            GroupShift::Puts {
+                group,
+                blocked,
+                traded_buys,
+                traded_sells,
+            } => {
+                let words = [u64::from(blocked), traded_buys, traded_sells];
+                self.put(Region::Groups, group, books::BLOCKED, &words);
+            }
+        }
+    }
+
+    // A symbol listed after so many, and the count raised; or a symbol's quotes. Nothing where neither is.
+    #[tactic(auto, unfolding(crate::specs::Storing::symbol_stored))]
+    fn put_symbol(&mut self, listed: usize, shift: SymbolShift)
+        requires { CanStore self.old (symbol_stored listed shift) }
+        ensures { Stores self.old self.new (symbol_stored listed shift) }
+    {
+        match shift {
+            SymbolShift::Stay => {}
+            SymbolShift::Adds { id, bid, offer } => {
+                let count = (listed + 1) as u64;
+                self.put(Region::Symbols, listed, books::SYMBOL_ID, &[id, bid, offer]);
+                self.put_head(books::SYMBOLS_LISTED, count);
+            }
+            SymbolShift::Puts { symbol, bid, offer } => self.put(
+                Region::Symbols,
+                symbol,
+                books::BID,
+                &[bid, offer],
+            ),
+        }
+    }
+
+    // A deed: its order, its group and its symbol, by the counts as they were before it.
+    #[tactic(auto, using(crate::specs::Parts::in_parts), unfolding(crate::specs::Storing::deed_stored))]
+    fn put_deed(&mut self, deed: Deed)
+        requires { CanStore self.old (deed_stored (sheet (layout self.old.room) self.old.mem.now) deed) }
+        ensures { Stores self.old self.new (deed_stored (sheet (layout self.old.room) self.old.mem.now) deed) }
+    {
+        let groups = self.mem[books::GROUPS_LISTED] as usize;
+        let symbols = self.mem[books::SYMBOLS_LISTED] as usize;
+        self.put_order(deed.order);
+        self.put_group(groups, deed.group);
+        self.put_symbol(symbols, deed.symbol);
+    }
+
+    // A place's key, and its request with the number remembered.
+    #[tactic(auto, unfolding(crate::specs::Storing::asked_stored))]
+    fn put_asked(&mut self, place: usize, key: Key, asking: Asking, number: u64)
+        requires { CanStore self.old (asked_stored place key asking number) }
+        ensures { Stores self.old self.new (asked_stored place key asking number) }
+    {
+        let name = key.name;
+        let target = asking.target;
+        let request = [
+            asking.kind,
+            number,
+            target.head,
+            target.middle,
+            target.tail,
+            asking.sym,
+            asking.side,
+            asking.size,
+            asking.price,
+        ];
+        self.put(
+            Region::Keys,
+            place,
+            books::OWNER,
+            &[key.owner, name.head, name.middle, name.tail],
+        );
+        self.put(Region::Requests, place, books::KIND, &request);
+    }
+
+    // A place taken, with its request and its figures, and the count raised.
+    #[tactic(auto, using(crate::specs::Parts::in_parts), unfolding(crate::specs::Storing::place_stored))]
+    fn put_place(&mut self, place: usize, key: Key, asking: Asking, number: u64, figures: Figures)
+        requires { CanStore self.old (place_stored place key asking number figures) }
+        ensures { Stores self.old self.new (place_stored place key asking number figures) }
+    {
+        let count = (place + 1) as u64;
+        self.put_asked(place, key, asking, number);
+        self.put_figures(place, figures);
+        self.put_head(books::PLACES_TAKEN, count);
+    }
+
+    // An edit, by the head as it was before it.
+    #[tactic(auto, using(crate::specs::Parts::in_parts), unfolding(crate::specs::Storing::edit_stored))]
+    fn put_edit(&mut self, edit: Edit)
+        requires storable { CanStore self.old (edit_stored (sheet (layout self.old.room) self.old.mem.now) edit) }
+        requires last_at_bound { head_in (sheet (layout self.old.room) self.old.mem.now) last_at ≤ 4_294_967_295 }
+        ensures { Stores self.old self.new (edit_stored (sheet (layout self.old.room) self.old.mem.now) edit) }
+    {
+        match edit {
+            Edit::Nothing => {}
+            Edit::Opened => self.put_head(books::OPENED, 1),
+            Edit::Listed { deed } => self.put_deed(deed),
+            Edit::Remembered {
+                key,
+                asking,
+                number,
+                deed,
+            } => {
+                let place = self.mem[books::PLACES_TAKEN] as usize;
+                self.put_deed(deed);
+                self.put_place(place, key, asking, number, born_figures(deed.order));
+            }
+            Edit::Taken { deed } => {
+                let last = self.mem[books::LAST] + 1;
+                self.put_deed(deed);
+                self.put_head(books::LAST, last);
+            }
+        }
+    }
 }
 
 // The lent words after an edit: its stores, and nothing else.
@@ -392,25 +398,6 @@ pub fn write_edit(mem: &mut [u64], edit: Edit)
     ensures { mem.new ≡ run (layout (room_of mem.old)) (edit_stored (rows_of mem.old) edit) mem.old }
 {
     let room = store::room(mem.len());
-    match edit {
-        Edit::Nothing => {}
-        Edit::Opened => store::put_row(mem, books::OPENED, &[1]),
-        Edit::Listed { deed } => put_deed(mem, room, deed),
-        Edit::Remembered {
-            key,
-            asking,
-            number,
-            deed,
-        } => {
-            let place = mem[books::PLACES_TAKEN] as usize;
-            let order = deed.order;
-            put_deed(mem, room, deed);
-            put_place(mem, room, place, key, asking, number, born_figures(order));
-        }
-        Edit::Taken { deed } => {
-            let last = mem[books::LAST] + 1;
-            put_deed(mem, room, deed);
-            store::put_row(mem, books::LAST, &[last]);
-        }
-    }
+    let mut lent = Lent { mem, room };
+    lent.put_edit(edit);
 }

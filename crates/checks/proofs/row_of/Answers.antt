@@ -1,10 +1,18 @@
--- `checks::row_of` meets its contract: the price has reached each row's start, so it is among the prices of the row that ends the search.
-use mathlib.Core.Path.{ap, subst, ◌∙◌}
-use Prim.Native.Nat.{◌<◌}
-use Rattle.checks.specs.Protection.{row_said, terms}
-use Rattle.checks.proofs.Protection.{row_right}
+-- `checks::row_of` meets its contract: what the search over the table finds is the row that the price is among.
+use Rattle.std.proofs.Common.{◌≡◌, ◌∙◌, ap, rules, tests, nat_lt}
+use Rattle.std.specs.List.{find}
+use Rattle.std.proofs.lemmas.Iterator.{YieldsList-from_slice}
+use Rattle.std.proofs.lemmas.Iterator.Consumers.{YieldsList-from_copied}
+use Rattle.std.proofs.lemmas.Iterator.Search.{find_from_yields_List}
+use Rattle.std.specs.Option.{unwrap_or, option_map}
+use Rattle.checks.specs.Protection.{table, row_said, terms}
+use Rattle.checks.proofs.Protection.{found_right, last}
 use Rattle.checks.specs.declared.Row.{Row}
 use Rattle.checks.proofs.row_of.Goals as goal
 
 pub returns : goal.returns
-returns c = ap (λ (r : Row). terms (row_said r)) c.row_at-row.ensures ∙ row_right _ _ c.loop-row.invariant.0 c.loop-row.invariant.1 (subst (λ (r : Row). c.args.price < r.bound) c.row_at-row.ensures c.if-price-row.true)
+returns c =
+    let above = λ (r : Row). nat_lt c.args.price r.bound in
+    let found : option_map (λ x. x) c.find.result ≡ find above table = find_from_yields_List above _ _ c.find.result c.find.ensures.ran (YieldsList-from_copied (YieldsList-from_slice table cc)) (λ x b q k. search (rules, tests)) in
+    let is : c.find.result ≡ find above table = search (rules, found) in
+    ap (λ (r : Row). terms (row_said r)) (c.unwrap_or.ensures ∙ ap (λ o. unwrap_or o last) is) ∙ found_right c.args.price
