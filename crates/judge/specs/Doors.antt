@@ -1,7 +1,7 @@
 -- The doors of a record: what opens the day or keeps it shut, the door of a request and that of a notice, by the rows of the lent words.
-use Rattle.std.specs.Prelude.{◌≡◌, true, false, List, ℕ, suc, ◌+◌, ◌≤◌, ◌<◌, leb, eqb, length}
+use Rattle.std.specs.Prelude.{◌≡◌, true, false, List, ℕ, suc, ◌+◌, ◌≤◌, ◌<◌, leb, eqb, length, Ok, Err}
 use Rattle.std.proofs.Math.Path.{refl, ap}
-use Rattle.std.proofs.Common.{sym, ◌∙◌, subst, arith}
+use Rattle.std.proofs.Common.{sym, ◌∙◌, subst, arith, ne_eqb}
 use Rattle.std.proofs.Math.Bool.{cond}
 use Rattle.std.proofs.Math.Option.{Option, Option-elim}
 use Prim.Native.Char.{code}
@@ -23,15 +23,18 @@ use Rattle.store.specs.Finding.{named_by, found_place, found_cases}
 use Rattle.store.specs.declared.Key.{Key as KeyWords}
 use Rattle.store.specs.declared.Found.{Found}
 use Rattle.store.specs.declared.Found.TheVariants.{At, Free, Full}
+use Rattle.checks.specs.Refusing.{number_of}
+use Rattle.checks.specs.declared.Refusal.{Refusal}
+use Rattle.checks.proofs.Refusing.{never_0}
 use Rattle.edits.specs.InRows.{asking_words, edit_in_rows}
+use Rattle.edits.specs.declared.Deed.{Deed}
 use Rattle.edits.specs.declared.Edit.{Edit}
 use Rattle.rulings.specs.Looking.{group_looked, row_missing}
-use Rattle.rulings.specs.Rulings.{deal_said, ruling_in_rows}
+use Rattle.rulings.specs.Rulings.{deal_said, idle_words, Ruled, ruled, ruling_in_rows}
 use Rattle.rulings.specs.Standing.{Desk, desk_looked}
 use Rattle.rulings.specs.declared.Deal.{Deal as DealWords}
-use Rattle.rulings.specs.declared.Ruling.{Ruling}
 use Rattle.judge.specs.Comparing.{Known, requested, compared}
-use Rattle.judge.specs.Verdicts.{verdict_in_rows, answered, answered_in_rows}
+use Rattle.judge.specs.Verdicts.{verdict_in_rows, given, answered, answered_in_rows, answered_bad}
 
 module _ (m : List ℕ) where
   abbrev S : Sheet
@@ -85,6 +88,11 @@ module _ (m : List ℕ) where
       rw (desk_looked m r.key.owner.mpid g d) (found_cases S (room_of m) r.key (λ f. seek (look by_request r.key (view m).asked) ≡ at_place r g f) (λ i lt e. rw e refl)
       (λ e lt. rw (e, n, lt-leb (room_of m) (head_in S places_at) lt) refl) (λ e le. rw (e, n, le-leb (room_of m) (head_in S places_at) le) refl))
 
+  -- by the desk's row, and by what the search found
+  pub at_found : Valid m → (r : Request) {g : ℕ} {f : Found} → g ≡ group_index S r.key.owner.mpid → g < head_in S groups_at → f ≡ found_place S (room_of m) r.key →
+      verdict_in_rows S (at_place r g f) ≡ verdict_in_rows S (judge_request (view m) r)
+  at_found v r {g} e lt h = ap (verdict_in_rows S) (sym (at_table r g (record { valid = v; listed = lt; found = sym e }) ∙ ap (at_place r g) (sym h)))
+
   -- the place that has the key
   pub known_at : Valid m → (k : KeyWords) (i : ℕ) → At i ≡ found_place S (room_of m) (named_by k) → Known m k i
   known_at v k i e = found_cases S (room_of m) (named_by k) (λ f. At i ≡ f → Known m k i)
@@ -105,12 +113,32 @@ module _ (m : List ℕ) where
   notice_next n w h k = rw (lt-leb n (head_in S last_at) h, le-ltb (suc (head_in S last_at)) n (omega arith)) refl
 
 -- ── a ruling given as a verdict ──
-module _ (S : Sheet) (x : Ruling) (u : judging.Ruling) (e : x ≡ ruling_in_rows S u) where
+module _ (S : Sheet) (x : Ruled) (u : judging.Ruling) (e : x ≡ ruling_in_rows S u) where
   pub booked : answered (code "K") (code "A") x.number 0 (Edit.Taken x.deed) ≡ verdict_in_rows S (book u)
   unfolding ruling_in_rows edit_in_rows
-  booked = ap (λ (x : Ruling). answered (code "K") (code "A") x.number 0 (Edit.Taken x.deed)) e ∙ answered_in_rows S "K" "A" u.number 0 (taken u.deed)
+  booked = ap (λ (x : Ruled). answered (code "K") (code "A") x.number 0 (Edit.Taken x.deed)) e ∙ answered_in_rows S "K" "A" u.number 0 (taken u.deed)
 
   pub remembers : (k : KeyWords) (d : DealWords) → answered (code "P") (code "R") x.number (cond (eqb x.number 0) (messages (deal_said d)) 0) (Edit.Remembered k (asking_words (deal_said d)) x.number x.deed) ≡ verdict_in_rows S (remember (requested k d) u)
   unfolding ruling_in_rows edit_in_rows
-  remembers k d = ap (λ (x : Ruling). answered (code "P") (code "R") x.number (cond (eqb x.number 0) (messages (deal_said d)) 0) (Edit.Remembered k (asking_words (deal_said d)) x.number x.deed)) e
+  remembers k d = ap (λ (x : Ruled). answered (code "P") (code "R") x.number (cond (eqb x.number 0) (messages (deal_said d)) 0) (Edit.Remembered k (asking_words (deal_said d)) x.number x.deed)) e
       ∙ answered_in_rows S "P" "R" u.number (cond (eqb u.number 0) (messages (deal_said d)) 0) (remembered (record { request = requested k d; number = u.number }) u.deed)
+
+-- granted, or refused
+module _ (S : Sheet) (u : judging.Ruling) where
+  pub booked_deed : (d : Deed) → ruled (Ok d) ≡ ruling_in_rows S u → given (code "K") 0 0 (Edit.Taken d) ≡ verdict_in_rows S (book u)
+  unfolding answered
+  booked_deed d e = booked S (ruled (Ok d)) u e
+
+  pub set_aside : (r : Refusal) → ruled (Err r) ≡ ruling_in_rows S u → given (code "A") (number_of r) 0 (Edit.Taken idle_words) ≡ verdict_in_rows S (book u)
+  set_aside r e = answered_bad (code "K") (code "A") (number_of r) 0 (Edit.Taken idle_words) (never_0 r) ∙ booked S (ruled (Err r)) u e
+
+  module _ (k : KeyWords) (d : DealWords) where
+    pub remembers_deed : (f : Deed) → ruled (Ok f) ≡ ruling_in_rows S u → given (code "P") 0 (messages (deal_said d)) (Edit.Remembered k (asking_words (deal_said d)) 0 f) ≡ verdict_in_rows S (remember (requested k d) u)
+    unfolding answered
+    remembers_deed f e = remembers S (ruled (Ok f)) u e k d
+
+    pub remembers_refusal : (r : Refusal) → ruled (Err r) ≡ ruling_in_rows S u → given (code "R") (number_of r) 0 (Edit.Remembered k (asking_words (deal_said d)) (number_of r) idle_words) ≡ verdict_in_rows S (remember (requested k d) u)
+    remembers_refusal r e = let edit = Edit.Remembered k (asking_words (deal_said d)) (number_of r) idle_words in
+        answered_bad (code "P") (code "R") (number_of r) 0 edit (never_0 r)
+        ∙ ap (λ b. answered (code "P") (code "R") (number_of r) (cond b (messages (deal_said d)) 0) edit) (sym (ne_eqb (number_of r) 0 (never_0 r)))
+        ∙ remembers S (ruled (Err r)) u e k d

@@ -1,12 +1,13 @@
 -- What the code's rulings are: the rulebook's, by rows.
 use Rattle.std.proofs.Math.Path as path
-use Rattle.std.specs.Prelude.{◌≡◌, Bool, true, false, cond, ℕ, ◌<◌, ◌≤◌, ◌*◌, eqb}
+use Rattle.std.specs.Prelude.{◌≡◌, Bool, true, false, cond, ℕ, ◌<◌, ◌≤◌, ◌*◌, eqb, Result, Ok, Err, Some, None}
 use Rattle.std.proofs.Math.Path.{refl, sym, ap, subst}
-use Rattle.std.proofs.Common.{◌∙◌, arith}
+use Rattle.std.proofs.Common.{◌∙◌}
 use Rattle.std.proofs.Math.Option.{some, none, Option-elim}
 use mathlib.Core.List.{List, []}
 use Rattle.std.proofs.Math.Dec.{ltb}
-use borrow.Author.Tests.{ltb-true, ltb-false, eq-eqb, ne_eqb}
+use borrow.Author.Tests.{ltb-true, ltb-false, ne_eqb}
+use Rattle.std.specs.Option.{ok_or}
 use Rattle.laws.specs.Tests.{on, is_none}
 use Rattle.laws.specs.Tables.{stay, adds, puts, shifted, put, sum, look}
 use Rattle.laws.specs.Checks.{Check, first, here, past, all_past}
@@ -25,6 +26,9 @@ use Rattle.books.specs.Writing.{group_index, symbol_index, order_index}
 use Rattle.checks.specs.Saying.{figures_said, tally_said, order_said, symbol_at}
 use Rattle.checks.specs.Trying.{new_figures, order_with}
 use Rattle.checks.specs.Alike.{new_alike, change_alike, cancel_alike, fill_alike, reduction_alike, refused_alike}
+use Rattle.checks.specs.Refusing.{number_of}
+use Rattle.checks.proofs.Refusing.{never_0}
+use Rattle.checks.specs.declared.Refusal.{Refusal}
 use Rattle.checks.specs.declared.Figures.{Figures as FigureWords}
 use Rattle.checks.specs.declared.Tally.{Tally as TallyWords}
 use Rattle.edits.specs.InRows.{figure_words, order_in_rows, deed_in_rows}
@@ -35,32 +39,24 @@ use Rattle.edits.specs.declared.Deed.{Deed}
 use Rattle.rulings.specs.Looking.{at_row, group_looked, symbol_looked, order_looked, row_there, row_missing}
 use Rattle.rulings.specs.Standing.{Desk, Held, desk_mpid, held, tally_after, stored_tally}
 use Rattle.rulings.specs.Counting.{value_said, exchanged, tally_adds}
-use Rattle.rulings.specs.Rulings.{idle_words, held_with, marked_with, amended_with, spot_of, ruling_in_rows}
-use Rattle.rulings.specs.declared.Ruling.{Ruling}
-use Rattle.rulings.specs.declared.Spot.{Spot}
+use Rattle.rulings.specs.Rulings.{Ruled, ruled, marked_with, amended_with, Spot, spot_in, order_place, own_spot, spot_of, ruling_in_rows}
 
--- ── a list of checks, by the number that the code has ──
-abbrev choice : ℕ → Bool → Deed → Ruling
-choice n b w = record { number = n; deed = cond b w idle_words }
-
-abbrev right : Sheet → ℕ → Bool → judging.Deed → Ruling
+-- ── a list of checks, by what the code has of it: a refusal or a deed ──
+abbrev right : Sheet → ℕ → Bool → judging.Deed → Ruled
 right S n b d = record { number = n; deed = deed_in_rows S (cond b d idle) }
 
-module _ (S : Sheet) (l : List Check) (d : judging.Deed) (n : ℕ) (e : n ≡ first l) where
-  pub ruled_held : (n ≡ 0 → ⊥) → held_with n ≡ ruling_in_rows S (rule l d)
+module _ (S : Sheet) (l : List Check) (d : judging.Deed) where
+  pub ruled_held : (r : Refusal) → number_of r ≡ first l → ruled (Err r) ≡ ruling_in_rows S (rule l d)
   unfolding ruling_in_rows deed_in_rows
-  ruled_held h = subst (λ k. held_with n ≡ right S k (eqb k 0) d) e (rw (ne_eqb n 0 h) refl)
+  ruled_held r e = subst (λ k. ruled (Err r) ≡ right S k (eqb k 0) d) e (rw (ne_eqb (number_of r) 0 (never_0 r)) refl)
 
-  pub ruled : (w : Deed) → w ≡ deed_in_rows S d → choice n (eqb n 0) w ≡ ruling_in_rows S (rule l d)
-  unfolding ruling_in_rows deed_in_rows
-  ruled w q = subst (λ k. choice n (eqb n 0) w ≡ right S k (eqb k 0) d) e (on (λ b. choice n b w ≡ right S n b d) (eqb n 0) (λ z. ap (choice n true) q) (λ z. refl))
+  pub ruled_granted : 0 ≡ first l → (w : Deed) → w ≡ deed_in_rows S d → ruled (Ok w) ≡ ruling_in_rows S (rule l d)
+  unfolding ruling_in_rows
+  ruled_granted e w q = subst (λ k. ruled (Ok w) ≡ right S k (eqb k 0) d) e (λ j. record { number = 0; deed = q j })
 
-  pub ruled_granted : (w : Deed) → n ≡ 0 → w ≡ deed_in_rows S d → choice n true w ≡ ruling_in_rows S (rule l d)
-  ruled_granted w z q = ap (λ b. choice n b w) (sym (eq-eqb n 0 z)) ∙ ruled w q
-
-pub hold_in_rows : (S : Sheet) (n : ℕ) → held_with n ≡ ruling_in_rows S (hold n)
+pub hold_in_rows : (S : Sheet) (r : Refusal) → ruled (Err r) ≡ ruling_in_rows S (hold (number_of r))
 unfolding ruling_in_rows deed_in_rows
-hold_in_rows S n = refl
+hold_in_rows S r = refl
 
 -- ── an order of a desk takes other figures ──
 module _ (m : List ℕ) (g i : ℕ) (h : Held m g i) where
@@ -85,58 +81,93 @@ module _ (m : List ℕ) (g i : ℕ) (h : Held m g i) where
       λ j. OrderShift.Puts (sym h.again j) (figure_words (e j)) (at j) (buys j) (sells j)
 
   -- and nothing else of its group
-  pub amended : (l : List Check) (f : Figures) (n : ℕ) (new : FigureWords) (t : TallyWords) → n ≡ first l → figures_said new ≡ f → tally_said t ≡ tally_after S g o f →
-      amended_with n g i new t GroupShift.Stay ≡ ruling_in_rows S (rule l (deed (puts (with_figures o f)) stay stay))
-  unfolding amended_with deed_in_rows
-  amended l f n new t c e q = ruled S l _ n c _ (λ j. record { order = puts_words f new t e (ap (λ (t : Tally). t.ob) q) (ap (λ (t : Tally). t.os) q) j; group = GroupShift.Stay; symbol = SymbolShift.Stay })
+  amended : (f : Figures) (new : FigureWords) (t : TallyWords) → figures_said new ≡ f → tally_said t ≡ tally_after S g o f →
+      amended_with g i new t GroupShift.Stay ≡ deed_in_rows S (deed (puts (with_figures o f)) stay stay)
+  unfolding deed_in_rows
+  amended f new t e q = λ j. record { order = puts_words f new t e (ap (λ (t : Tally). t.ob) q) (ap (λ (t : Tally). t.os) q) j; group = GroupShift.Stay; symbol = SymbolShift.Stay }
 
   -- or its traded values and its block, tested: H is the group with what was traded
   module _ (H : Group) (named : H.mpid ≡ desk.mpid) (terms : H.terms ≡ desk.terms) (blocked : H.blocked ≡ desk.blocked) where
-    pub booked : (l : List Check) (f : Figures) (n : ℕ) (new : FigureWords) (t : TallyWords) → n ≡ first l → figures_said new ≡ f → tally_said t ≡ tally H (after f) →
-        amended_with n g i new t (marked_with g (tested desk (tally_said t)).blocked t) ≡ ruling_in_rows S (rule l (deed (puts (with_figures o f)) (puts (tested H (tally H (after f)))) stay))
-    unfolding amended_with deed_in_rows
-    booked l f n new t c e q =
+    booked : (f : Figures) (new : FigureWords) (t : TallyWords) → figures_said new ≡ f → tally_said t ≡ tally H (after f) →
+        amended_with g i new t (marked_with g (tested desk (tally_said t)).blocked t) ≡ deed_in_rows S (deed (puts (with_figures o f)) (puts (tested H (tally H (after f)))) stay)
+    unfolding deed_in_rows
+    booked f new t e q =
         let at : g ≡ group_index S H.mpid = sym h.found ∙ ap (group_index S) (sym named) in
         let mark : (tested desk (tally_said t)).blocked ≡ (tested H (tally H (after f))).blocked = λ j. (tested (record { mpid = desk.mpid; terms = sym terms j; blocked = sym blocked j; traded_buys = desk.traded_buys; traded_sells = desk.traded_sells }) (q j)).blocked in
         let buys = ap (λ (t : Tally). t.ob) q ∙ ap (λ p. sum (worth p true) (after f)) named in
         let sells = ap (λ (t : Tally). t.os) q ∙ ap (λ p. sum (worth p false) (after f)) named in
-        ruled S l _ n c _ (λ j. record { order = puts_words f new t e buys sells j; group = GroupShift.Puts (at j) (mark j) (q j).tb (q j).ts; symbol = SymbolShift.Stay })
+        λ j. record { order = puts_words f new t e buys sells j; group = GroupShift.Puts (at j) (mark j) (q j).tb (q j).ts; symbol = SymbolShift.Stay }
 
-  -- ── by kind ──
-  module _ (old : FigureWords) (e : figures_said old ≡ o.figures) (n : ℕ) where
-    pub change_ruled : (y : ℕ) (t : TallyWords) (side z p : ℕ) → n ≡ first (change_checks desk (symbol_at S y) (tally_said t) (order_said side old) (sized z p (figures_said old))) → y ≡ symbol_index S o.ticket.sym → o.ticket.side ≡ side_of side →
-        (new : FigureWords) → figures_said new ≡ sized z p (figures_said old) → tally_said t ≡ tally_after S g o (figures_said new) → amended_with n g i new t GroupShift.Stay ≡ ruling_in_rows S (change_ruling (view m).ledger desk z p o)
+  -- ── by kind: refused by the code's checks, or granted ──
+  module _ (old : FigureWords) (e : figures_said old ≡ o.figures) where
+    -- an M
+    module _ (y : ℕ) (t : TallyWords) (side z p : ℕ) (q : y ≡ symbol_index S o.ticket.sym) (x : o.ticket.side ≡ side_of side)
+        (new : FigureWords) (f : figures_said new ≡ sized z p (figures_said old)) (k : tally_said t ≡ tally_after S g o (figures_said new)) where
+      change_tally : tally_said t ≡ tally_after S g o (sized z p o.figures)
+      change_tally = k ∙ ap (tally_after S g o) (f ∙ ap (sized z p) e)
+
+      change_number : first (change_checks desk (symbol_at S y) (tally_said t) (order_said side old) (sized z p (figures_said old))) ≡ first (change_checks desk (look by_id o.ticket.sym (view m).ledger.symbols) (tally_after S g o (sized z p o.figures)) o (sized z p o.figures))
+      unfolding books_in
+      change_number = let s : symbol_at S y ≡ look by_id o.ticket.sym (view m).ledger.symbols = ap (symbol_at S) q ∙ sym (symbol_looked m o.ticket.sym) in
+          ap first (sym (change_alike o side old (sym e) desk (symbol_at S y) (tally_said t) (sized z p (figures_said old)) x) ∙ (λ j. change_checks desk (s j) (change_tally j) o (sized z p (e j))))
+
+      pub change_held : (r : Refusal) → number_of r ≡ first (change_checks desk (symbol_at S y) (tally_said t) (order_said side old) (sized z p (figures_said old))) → ruled (Err r) ≡ ruling_in_rows S (change_ruling (view m).ledger desk z p o)
+      unfolding books_in
+      change_held r c = ruled_held S _ _ r (c ∙ change_number)
+
+      pub change_granted : 0 ≡ first (change_checks desk (symbol_at S y) (tally_said t) (order_said side old) (sized z p (figures_said old))) → ruled (Ok (amended_with g i new t GroupShift.Stay)) ≡ ruling_in_rows S (change_ruling (view m).ledger desk z p o)
+      unfolding books_in
+      change_granted c = ruled_granted S _ _ (c ∙ change_number) _ (amended (sized z p o.figures) new t (f ∙ ap (sized z p) e) change_tally)
+
+    -- a C
+    pub cancel_held : (r : Refusal) → number_of r ≡ first (cancel_checks (order_with old)) → ruled (Err r) ≡ ruling_in_rows S (cancel_ruling o)
+    cancel_held r c = ruled_held S _ _ r (c ∙ ap first (sym (cancel_alike o 66 old (sym e))))
+
+    pub cancel_granted : (new : FigureWords) (t : TallyWords) → 0 ≡ first (cancel_checks (order_with old)) → figures_said new ≡ asking true (figures_said old) → tally_said t ≡ tally_after S g o (figures_said new) →
+        ruled (Ok (amended_with g i new t GroupShift.Stay)) ≡ ruling_in_rows S (cancel_ruling o)
+    cancel_granted new t c f k = let w = f ∙ ap (asking true) e in
+        ruled_granted S _ _ (c ∙ ap first (sym (cancel_alike o 66 old (sym e)))) _ (amended (asking true o.figures) new t w (k ∙ ap (tally_after S g o) w))
+
+    -- an H
+    pub refused_held : (r : Refusal) → number_of r ≡ first (refused_checks (order_with old)) → ruled (Err r) ≡ ruling_in_rows S (refused_ruling desk o)
+    refused_held r c = ruled_held S _ _ r (c ∙ ap first (sym (refused_alike o 66 old (sym e))))
+
+    pub refused_granted : (new : FigureWords) (t : TallyWords) → 0 ≡ first (refused_checks (order_with old)) → figures_said new ≡ asking false (figures_said old) → tally_said t ≡ tally_after S g o (figures_said new) →
+        ruled (Ok (amended_with g i new t GroupShift.Stay)) ≡ ruling_in_rows S (refused_ruling desk o)
+    refused_granted new t c f k = let w = f ∙ ap (asking false) e in
+        ruled_granted S _ _ (c ∙ ap first (sym (refused_alike o 66 old (sym e)))) _ (amended (asking false o.figures) new t w (k ∙ ap (tally_after S g o) w))
+
+    -- an F
+    module _ (new : FigureWords) (t : TallyWords) (z p : ℕ) (f : figures_said new ≡ worked z (figures_said old))
+        (k : tally_said t ≡ tally (traded (is_buy o.ticket.side) (z * p) desk) (after (figures_said new))) where
+      abbrev filled : Group
+      filled = traded (is_buy o.ticket.side) (z * p) desk
+
+      fill_tally : tally_said t ≡ tally filled (after (worked z o.figures))
+      fill_tally = k ∙ ap (λ f. tally filled (after f)) (f ∙ ap (worked z) e)
+
+      fill_number : first (fill_checks (tally_said t) z (order_with old)) ≡ first (fill_checks (tally filled (after (worked z o.figures))) z o)
+      fill_number = ap first (sym (fill_alike o 66 old (sym e) (tally_said t) z) ∙ ap (λ t. fill_checks t z o) fill_tally)
+
+      pub fill_held : (r : Refusal) → number_of r ≡ first (fill_checks (tally_said t) z (order_with old)) → ruled (Err r) ≡ ruling_in_rows S (fill_ruling (view m).ledger.orders z p desk o)
+      unfolding books_in
+      fill_held r c = ruled_held S _ _ r (c ∙ fill_number)
+
+      pub fill_granted : 0 ≡ first (fill_checks (tally_said t) z (order_with old)) →
+          ruled (Ok (amended_with g i new t (marked_with g (tested desk (tally_said t)).blocked t))) ≡ ruling_in_rows S (fill_ruling (view m).ledger.orders z p desk o)
+      unfolding books_in
+      fill_granted c = ruled_granted S _ _ (c ∙ fill_number) _ (booked filled refl refl refl (worked z o.figures) new t (f ∙ ap (worked z) e) fill_tally)
+
+    -- a D
+    pub reduction_held : (z : ℕ) (r : Refusal) → number_of r ≡ first (reduction_checks z (order_with old)) → ruled (Err r) ≡ ruling_in_rows S (reduction_ruling (view m).ledger.orders z desk o)
     unfolding books_in
-    change_ruled y t side z p c q x new f k =
-        let w : figures_said new ≡ sized z p o.figures = f ∙ ap (sized z p) e in
-        let s : symbol_at S y ≡ look by_id o.ticket.sym (view m).ledger.symbols = ap (symbol_at S) q ∙ sym (symbol_looked m o.ticket.sym) in
-        let r : tally_said t ≡ tally_after S g o (sized z p o.figures) = k ∙ ap (tally_after S g o) w in
-        amended _ (sized z p o.figures) n new t (c ∙ ap first (sym (change_alike o side old (sym e) desk (symbol_at S y) (tally_said t) (sized z p (figures_said old)) x) ∙ (λ j. change_checks desk (s j) (r j) o (sized z p (e j))))) w r
+    reduction_held z r c = ruled_held S _ _ r (c ∙ ap first (sym (reduction_alike o 66 old (sym e) z)))
 
-    pub cancel_ruled : (new : FigureWords) (t : TallyWords) → n ≡ first (cancel_checks (order_with old)) → figures_said new ≡ asking true (figures_said old) → tally_said t ≡ tally_after S g o (figures_said new) →
-        amended_with n g i new t GroupShift.Stay ≡ ruling_in_rows S (cancel_ruling o)
-    cancel_ruled new t c f k = let w = f ∙ ap (asking true) e in amended _ (asking true o.figures) n new t (c ∙ ap first (sym (cancel_alike o 66 old (sym e)))) w (k ∙ ap (tally_after S g o) w)
-
-    pub refused_ruled : (new : FigureWords) (t : TallyWords) → n ≡ first (refused_checks (order_with old)) → figures_said new ≡ asking false (figures_said old) → tally_said t ≡ tally_after S g o (figures_said new) →
-        amended_with n g i new t GroupShift.Stay ≡ ruling_in_rows S (refused_ruling desk o)
-    refused_ruled new t c f k = let w = f ∙ ap (asking false) e in amended _ (asking false o.figures) n new t (c ∙ ap first (sym (refused_alike o 66 old (sym e)))) w (k ∙ ap (tally_after S g o) w)
-
-    pub fill_ruled : (new : FigureWords) (t : TallyWords) (z p : ℕ) → n ≡ first (fill_checks (tally_said t) z (order_with old)) → figures_said new ≡ worked z (figures_said old) →
-        tally_said t ≡ tally (traded (is_buy o.ticket.side) (z * p) desk) (after (figures_said new)) →
-        amended_with n g i new t (marked_with g (tested desk (tally_said t)).blocked t) ≡ ruling_in_rows S (fill_ruling (view m).ledger.orders z p desk o)
+    pub reduction_granted : (new : FigureWords) (t : TallyWords) (z : ℕ) → 0 ≡ first (reduction_checks z (order_with old)) → figures_said new ≡ worked z (figures_said old) → tally_said t ≡ tally_after S g o (figures_said new) →
+        ruled (Ok (amended_with g i new t (marked_with g (tested desk (tally_said t)).blocked t))) ≡ ruling_in_rows S (reduction_ruling (view m).ledger.orders z desk o)
     unfolding books_in
-    fill_ruled new t z p c f k =
-        let w = f ∙ ap (worked z) e in
-        let H = traded (is_buy o.ticket.side) (z * p) desk in
-        let r : tally_said t ≡ tally H (after (worked z o.figures)) = k ∙ ap (λ f. tally H (after f)) w in
-        booked H refl refl refl _ (worked z o.figures) n new t (c ∙ ap first (sym (fill_alike o 66 old (sym e) (tally_said t) z) ∙ ap (λ t. fill_checks t z o) r)) w r
-
-    pub reduction_ruled : (new : FigureWords) (t : TallyWords) (z : ℕ) → n ≡ first (reduction_checks z (order_with old)) → figures_said new ≡ worked z (figures_said old) → tally_said t ≡ tally_after S g o (figures_said new) →
-        amended_with n g i new t (marked_with g (tested desk (tally_said t)).blocked t) ≡ ruling_in_rows S (reduction_ruling (view m).ledger.orders z desk o)
-    unfolding books_in
-    reduction_ruled new t z c f k =
-        let w = f ∙ ap (worked z) e in
-        booked desk refl refl refl _ (worked z o.figures) n new t (c ∙ ap first (sym (reduction_alike o 66 old (sym e) z))) w (k ∙ ap (tally_after S g o) w)
+    reduction_granted new t z c f k = let w = f ∙ ap (worked z) e in
+        ruled_granted S _ _ (c ∙ ap first (sym (reduction_alike o 66 old (sym e) z))) _ (booked desk refl refl refl (worked z o.figures) new t w (k ∙ ap (tally_after S g o) w))
 
 -- ── a desk's request that names no order ──
 module _ (m : List ℕ) (k : Key) (g : ℕ) (d : Desk m k.owner.mpid g) where
@@ -144,8 +175,7 @@ module _ (m : List ℕ) (k : Key) (g : ℕ) (d : Desk m k.owner.mpid g) where
   listed = group_of (rows_of m) g
 
   -- a new order, with its desk's tally
-  module _ (n y : ℕ) (t : TallyWords) (sym side z p : ℕ)
-      (c : n ≡ first (new_checks listed (symbol_at (rows_of m) y) (tally_said t) (order_said side (new_figures z p)))) (q : y ≡ symbol_index (rows_of m) sym)
+  module _ (y : ℕ) (t : TallyWords) (sym side z p : ℕ) (q : y ≡ symbol_index (rows_of m) sym)
       (e : tally_said t ≡ exchanged (is_buy (side_of side)) 0 (value_said (figures_said (new_figures z p))) (tally_in (rows_of m groups g))) where
     abbrev born : Order
     born = new_order k sym (side_of side) z p
@@ -155,25 +185,26 @@ module _ (m : List ℕ) (k : Key) (g : ℕ) (d : Desk m k.owner.mpid g) where
     unfolding open_value
     counted = e ∙ path.sym (tally_adds listed (orders_in (rows_of m)) born (path.sym (desk_mpid m k.owner.mpid g d)) ∙ ap (exchanged (is_buy (side_of side)) 0 (value_said (figures_said (new_figures z p)))) (stored_tally m d.valid g d.listed))
 
-    number_is : n ≡ first (new_checks listed (look by_id sym (view m).ledger.symbols) (tally listed (shifted by_key (adds born) (view m).ledger.orders)) born)
+    new_number : first (new_checks listed (symbol_at (rows_of m) y) (tally_said t) (order_said side (new_figures z p))) ≡ first (new_checks listed (look by_id sym (view m).ledger.symbols) (tally listed (shifted by_key (adds born) (view m).ledger.orders)) born)
     unfolding books_in
-    number_is = let s : symbol_at (rows_of m) y ≡ look by_id sym (view m).ledger.symbols = ap (symbol_at (rows_of m)) q ∙ path.sym (symbol_looked m sym) in
-        c ∙ ap first (path.sym (new_alike born side (new_figures z p) refl listed (symbol_at (rows_of m) y) (tally_said t) refl) ∙ (λ j. new_checks listed (s j) (counted j) born))
+    new_number = let s : symbol_at (rows_of m) y ≡ look by_id sym (view m).ledger.symbols = ap (symbol_at (rows_of m)) q ∙ path.sym (symbol_looked m sym) in
+        ap first (path.sym (new_alike born side (new_figures z p) refl listed (symbol_at (rows_of m) y) (tally_said t) refl) ∙ (λ j. new_checks listed (s j) (counted j) born))
 
-    pub new_held : (n ≡ 0 → ⊥) → held_with n ≡ ruling_in_rows (rows_of m) (new_ruling (view m).ledger listed born)
-    new_held h = ruled_held (rows_of m) _ _ n number_is h
+    pub new_held : (r : Refusal) → number_of r ≡ first (new_checks listed (symbol_at (rows_of m) y) (tally_said t) (order_said side (new_figures z p))) → ruled (Err r) ≡ ruling_in_rows (rows_of m) (new_ruling (view m).ledger listed born)
+    new_held r c = ruled_held (rows_of m) _ _ r (c ∙ new_number)
 
-    pub new_granted : n ≡ 0 → choice n true (record { order = OrderShift.Adds (new_figures z p) g t.ob t.os; group = GroupShift.Stay; symbol = SymbolShift.Stay }) ≡ ruling_in_rows (rows_of m) (new_ruling (view m).ledger listed born)
+    pub new_granted : 0 ≡ first (new_checks listed (symbol_at (rows_of m) y) (tally_said t) (order_said side (new_figures z p))) →
+        ruled (Ok (record { order = OrderShift.Adds (new_figures z p) g t.ob t.os; group = GroupShift.Stay; symbol = SymbolShift.Stay })) ≡ ruling_in_rows (rows_of m) (new_ruling (view m).ledger listed born)
     unfolding deed_in_rows
-    new_granted h =
+    new_granted c =
         let own = desk_mpid m k.owner.mpid g d in
         let buys = ap (λ (t : Tally). t.ob) counted ∙ ap (λ p. sum (worth p true) (shifted by_key (adds born) (orders_in (rows_of m)))) (path.sym own) in
         let sells = ap (λ (t : Tally). t.os) counted ∙ ap (λ p. sum (worth p false) (shifted by_key (adds born) (orders_in (rows_of m)))) (path.sym own) in
-        ruled_granted (rows_of m) _ _ n number_is _ h (λ j. record { order = OrderShift.Adds (new_figures z p) (path.sym d.found j) (buys j) (sells j); group = GroupShift.Stay; symbol = SymbolShift.Stay })
+        ruled_granted (rows_of m) _ _ (c ∙ new_number) _ (λ j. record { order = OrderShift.Adds (new_figures z p) (path.sym d.found j) (buys j) (sells j); group = GroupShift.Stay; symbol = SymbolShift.Stay })
 
   -- a block set or lifted
   pub block_granted : (b : Bool) (t : TallyWords) → tally_said t ≡ tally_in (rows_of m groups g) →
-      choice 0 true (record { order = OrderShift.Stay; group = marked_with g b t; symbol = SymbolShift.Stay }) ≡ ruling_in_rows (rows_of m) (grant (deed stay (puts (blocking b listed)) stay))
+      ruled (Ok (record { order = OrderShift.Stay; group = marked_with g b t; symbol = SymbolShift.Stay })) ≡ ruling_in_rows (rows_of m) (grant (deed stay (puts (blocking b listed)) stay))
   unfolding ruling_in_rows deed_in_rows
   block_granted b t e = let at : g ≡ group_index (rows_of m) listed.mpid = path.sym d.found ∙ ap (group_index (rows_of m)) (desk_mpid m k.owner.mpid g d) in
       λ j. record { number = 0; deed = record { order = OrderShift.Stay; group = GroupShift.Puts (at j) b (e j).tb (e j).ts; symbol = SymbolShift.Stay } }
@@ -186,12 +217,12 @@ module _ (m : List ℕ) (y sym bid offer : ℕ) (q : y ≡ symbol_index (rows_of
   row_of : look by_id sym (view m).ledger.symbols ≡ at_row (symbol_of (rows_of m)) y (head_in (rows_of m) symbols_at)
   row_of = symbol_looked m sym ∙ ap (λ (y : ℕ). at_row (symbol_of (rows_of m)) y (head_in (rows_of m) symbols_at)) (path.sym q)
 
-  pub quote_held : head_in (rows_of m) symbols_at ≤ y → held_with 8 ≡ ruling_in_rows (rows_of m) (quote_ruling (view m).ledger.symbols quoted)
-  quote_held h = ruled_held (rows_of m) _ _ 8 (here _ 8 [] (ap is_none (row_of ∙ row_missing (symbol_of (rows_of m)) y (head_in (rows_of m) symbols_at) h))) (λ e. omega arith)
+  pub quote_held : head_in (rows_of m) symbols_at ≤ y → ruled (Err Refusal.NoSymbol) ≡ ruling_in_rows (rows_of m) (quote_ruling (view m).ledger.symbols quoted)
+  quote_held h = ruled_held (rows_of m) _ _ Refusal.NoSymbol (here _ 8 [] (ap is_none (row_of ∙ row_missing (symbol_of (rows_of m)) y (head_in (rows_of m) symbols_at) h)))
 
-  pub quote_granted : y < head_in (rows_of m) symbols_at → choice 0 true (record { order = OrderShift.Stay; group = GroupShift.Stay; symbol = SymbolShift.Puts y bid offer }) ≡ ruling_in_rows (rows_of m) (quote_ruling (view m).ledger.symbols quoted)
+  pub quote_granted : y < head_in (rows_of m) symbols_at → ruled (Ok (record { order = OrderShift.Stay; group = GroupShift.Stay; symbol = SymbolShift.Puts y bid offer })) ≡ ruling_in_rows (rows_of m) (quote_ruling (view m).ledger.symbols quoted)
   unfolding deed_in_rows
-  quote_granted h = ruled_granted (rows_of m) _ _ 0 (past _ 8 0 [] (ap is_none (row_of ∙ row_there (symbol_of (rows_of m)) y (head_in (rows_of m) symbols_at) h)) all_past) _ refl (λ j. record { order = OrderShift.Stay; group = GroupShift.Stay; symbol = SymbolShift.Puts (q j) bid offer })
+  quote_granted h = ruled_granted (rows_of m) _ _ (past _ 8 0 [] (ap is_none (row_of ∙ row_there (symbol_of (rows_of m)) y (head_in (rows_of m) symbols_at) h)) all_past) _ (λ j. record { order = OrderShift.Stay; group = GroupShift.Stay; symbol = SymbolShift.Puts (q j) bid offer })
 
 -- ── targets ──
 module _ (m : List ℕ) (k : Key) where
@@ -201,7 +232,7 @@ module _ (m : List ℕ) (k : Key) where
   abbrev taken : ℕ
   taken = head_in (rows_of m) places_at
 
-  pub target_there : (f : Order → judging.Ruling) → at < taken → found 9 (look by_key k (view m).ledger.orders) f ≡ f (order_of (rows_of m) at)
+  target_there : (f : Order → judging.Ruling) → at < taken → found 9 (look by_key k (view m).ledger.orders) f ≡ f (order_of (rows_of m) at)
   unfolding Option-elim
   target_there f h = ap (λ o. found 9 o f) (order_looked m k ∙ row_there (order_of (rows_of m)) at taken h)
 
@@ -209,34 +240,59 @@ module _ (m : List ℕ) (k : Key) where
   unfolding Option-elim
   target_missing f h = ap (λ o. found 9 o f) (order_looked m k ∙ row_missing (order_of (rows_of m)) at taken h)
 
-  pub missing_held : (f : Order → judging.Ruling) → taken ≤ at → held_with 9 ≡ ruling_in_rows (rows_of m) (found 9 (look by_key k (view m).ledger.orders) f)
-  missing_held f h = hold_in_rows (rows_of m) 9 ∙ ap (ruling_in_rows (rows_of m)) (path.sym (target_missing f h))
+  -- what is ruled of the order at a spot and its desk, or the refusal
+  abbrev pub spot_ruling : (Group → Order → judging.Ruling) → Result Spot Refusal → judging.Ruling
+  spot_ruling f (Ok s) = f (group_of (rows_of m) s.group) (order_of (rows_of m) s.order)
+  spot_ruling f (Err r) = hold (number_of r)
 
-  -- ── of a notice: its desk, and then the order ──
-  abbrev pub spot_ruling : (Group → Order → judging.Ruling) → Spot → judging.Ruling
-  spot_ruling f Spot.NoDesk = hold 5
-  spot_ruling f Spot.NoOrder = hold 9
-  spot_ruling f (Spot.Stands g i) = f (group_of (rows_of m) g) (order_of (rows_of m) i)
+  abbrev pub SpotHeld : Result Spot Refusal → Type 0
+  SpotHeld (Ok s) = Held m s.group s.order
+  SpotHeld (Err r) = Unit {0}
 
-  abbrev pub SpotHeld : Spot → Type 0
-  SpotHeld Spot.NoDesk = Unit {0}
-  SpotHeld Spot.NoOrder = Unit {0}
-  SpotHeld (Spot.Stands g i) = Held m g i
+  -- THEOREM. What a desk's request gets that names an order goes by where that stands
+  pub own_spotted : (g : ℕ) (f : Group → Order → judging.Ruling) → found 9 (look by_key k (view m).ledger.orders) (f (group_of (rows_of m) g)) ≡ spot_ruling f (own_spot (rows_of m) g k)
+  unfolding own_spot order_place
+  own_spotted g f = on (λ b. ltb at taken ≡ b → found 9 (look by_key k (view m).ledger.orders) (f (group_of (rows_of m) g)) ≡ spot_ruling f (spot_in g (ok_or (cond b (Some at) None) Refusal.NotOpen))) (ltb at taken)
+      (λ y q. target_there (f (group_of (rows_of m) g)) (ltb-true at taken q)) (λ y q. target_missing (f (group_of (rows_of m) g)) (ltb-false at taken q)) refl
 
-  -- THEOREM. What a notice gets goes by where its target stands
+  -- THEOREM. And what a notice gets, by its desk too
   pub spotted : (f : Group → Order → judging.Ruling) → at_order (view m).ledger k f ≡ spot_ruling f (spot_of (rows_of m) k)
   unfolding spot_of Option-elim
   spotted f = let g = group_index (rows_of m) k.owner.mpid in let n = head_in (rows_of m) groups_at in
       ap (λ o. found 5 o (λ g. found 9 (look by_key k (view m).ledger.orders) (f g))) (group_looked m k.owner.mpid)
-      ∙ on (λ b. found 5 (cond b (some (group_of (rows_of m) g)) none) (λ g. found 9 (look by_key k (view m).ledger.orders) (f g)) ≡ spot_ruling f (cond b (cond (ltb at taken) (Spot.Stands g at) Spot.NoOrder) Spot.NoDesk)) (ltb g n)
-      (λ z. on (λ b. ltb at taken ≡ b → found 9 (look by_key k (view m).ledger.orders) (f (group_of (rows_of m) g)) ≡ spot_ruling f (cond b (Spot.Stands g at) Spot.NoOrder)) (ltb at taken)
-      (λ y q. target_there (f (group_of (rows_of m) g)) (ltb-true at taken q)) (λ y q. target_missing (f (group_of (rows_of m) g)) (ltb-false at taken q)) refl)
-      (λ z. refl)
+      ∙ on (λ b. found 5 (cond b (some (group_of (rows_of m) g)) none) (λ g. found 9 (look by_key k (view m).ledger.orders) (f g)) ≡ spot_ruling f (cond b (own_spot (rows_of m) g k) (Err Refusal.NoDesk))) (ltb g n)
+      (λ z. own_spotted g f) (λ z. refl)
+
+  pub own_spot_held : (g : ℕ) → Desk m k.owner.mpid g → SpotHeld (own_spot (rows_of m) g k)
+  unfolding own_spot order_place
+  own_spot_held g d = on (λ b. ltb at taken ≡ b → SpotHeld (spot_in g (ok_or (cond b (Some at) None) Refusal.NotOpen))) (ltb at taken) (λ y r. held m k g at d refl (ltb-true at taken r)) (λ y r. tt) refl
 
   pub spot_held : Valid m → SpotHeld (spot_of (rows_of m) k)
   unfolding spot_of
   spot_held v = let g = group_index (rows_of m) k.owner.mpid in let n = head_in (rows_of m) groups_at in
-      on (λ b. ltb g n ≡ b → SpotHeld (cond b (cond (ltb at taken) (Spot.Stands g at) Spot.NoOrder) Spot.NoDesk)) (ltb g n)
-      (λ z q. on (λ b. ltb at taken ≡ b → SpotHeld (cond b (Spot.Stands g at) Spot.NoOrder)) (ltb at taken)
-      (λ y r. held m k g at (record { valid = v; listed = ltb-true g n q; found = refl }) refl (ltb-true at taken r)) (λ y r. tt) refl)
-      (λ z q. tt) refl
+      on (λ b. ltb g n ≡ b → SpotHeld (cond b (own_spot (rows_of m) g k) (Err Refusal.NoDesk))) (ltb g n)
+      (λ z q. own_spot_held g (record { valid = v; listed = ltb-true g n q; found = refl })) (λ z q. tt) refl
+
+-- ── a ruling that goes by where an order stands, over the same words ──
+module _ (m : List ℕ) (k : Key) (R : judging.Ruling) (f : List ℕ → Group → Order → judging.Ruling) {s : Result Spot Refusal} (goes : R ≡ spot_ruling m k (f m) s) where
+  aside : (r : Refusal) → Err r ≡ s → ruled (Err r) ≡ ruling_in_rows (rows_of m) R
+  aside r e = hold_in_rows (rows_of m) r ∙ ap (ruling_in_rows (rows_of m)) (ap (spot_ruling m k (f m)) e ∙ path.sym goes)
+
+  aimed : (n : List ℕ) (a : Spot) (x : Ruled) → Ok a ≡ s → n ≡ m → x ≡ ruling_in_rows (rows_of n) (f n (group_of (rows_of n) a.group) (order_of (rows_of n) a.order)) → x ≡ ruling_in_rows (rows_of m) R
+  aimed n a x e q h = subst (λ n. x ≡ ruling_in_rows (rows_of n) (f n (group_of (rows_of n) a.group) (order_of (rows_of n) a.order))) q h ∙ ap (ruling_in_rows (rows_of m)) (ap (spot_ruling m k (f m)) e ∙ path.sym goes)
+
+module _ (f : List ℕ → Group → Order → judging.Ruling) (m : List ℕ) (k : Key) where
+  -- of a desk's request
+  pub own_aside : (g : ℕ) (r : Refusal) → Err r ≡ own_spot (rows_of m) g k → ruled (Err r) ≡ ruling_in_rows (rows_of m) (found 9 (look by_key k (view m).ledger.orders) (f m (group_of (rows_of m) g)))
+  own_aside g = aside m k _ f (own_spotted m k g (f m))
+
+  pub own_aimed : (g : ℕ) (n : List ℕ) (a : Spot) (x : Ruled) → Ok a ≡ own_spot (rows_of m) g k → n ≡ m → x ≡ ruling_in_rows (rows_of n) (f n (group_of (rows_of n) a.group) (order_of (rows_of n) a.order)) →
+      x ≡ ruling_in_rows (rows_of m) (found 9 (look by_key k (view m).ledger.orders) (f m (group_of (rows_of m) g)))
+  own_aimed g = aimed m k _ f (own_spotted m k g (f m))
+
+  -- of a notice
+  pub notice_aside : (r : Refusal) → Err r ≡ spot_of (rows_of m) k → ruled (Err r) ≡ ruling_in_rows (rows_of m) (at_order (view m).ledger k (f m))
+  notice_aside = aside m k _ f (spotted m k (f m))
+
+  pub notice_aimed : (n : List ℕ) (a : Spot) (x : Ruled) → Ok a ≡ spot_of (rows_of m) k → n ≡ m → x ≡ ruling_in_rows (rows_of n) (f n (group_of (rows_of n) a.group) (order_of (rows_of n) a.order)) → x ≡ ruling_in_rows (rows_of m) (at_order (view m).ledger k (f m))
+  notice_aimed = aimed m k _ f (spotted m k (f m))

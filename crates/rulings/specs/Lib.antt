@@ -3,3 +3,4 @@ pub mod Counting
 pub mod Rulings
 pub mod Standing
 pub mod Granting
+pub mod Targets

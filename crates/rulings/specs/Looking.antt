@@ -1,5 +1,6 @@
 -- What the rulebook looks up, by rows: the first row with the key, if one of those in use has it.
-use Rattle.std.specs.Prelude.{◌≡◌, Bool, true, false, ◌&&◌, List, ℕ, ◌<◌, ◌≤◌, eqb}
+use Rattle.std.specs.Prelude.{◌≡◌, Bool, true, false, ◌&&◌, List, ℕ, ◌<◌, ◌≤◌, eqb, Some, None}
+use Rattle.std.specs.Bool.{then_some}
 use Rattle.std.proofs.Math.Path.{refl, sym, ap}
 use Rattle.std.proofs.Common.{◌∙◌, subst, arith}
 use Rattle.std.proofs.Math.Bool.{cond, false≢true}
@@ -19,6 +20,7 @@ use Rattle.books.specs.Writing.{group_index, symbol_index, order_index}
 use Rattle.store.specs.Finding.{key_at, place_index, found_place}
 use Rattle.store.specs.declared.Found.{Found}
 use Rattle.store.specs.declared.Found.TheVariants.{At, Free, Full}
+use Rattle.rulings.specs.Rulings.{order_place}
 
 -- row i of n
 abbrev pub at_row : {A : Type 0} → (ℕ → A) → ℕ → ℕ → Option A
@@ -79,13 +81,13 @@ module _ (S : Sheet) (room : ℕ) (k : Key) where
   unfolding order_index
   order_none h = sym (least_none holds np h)
 
-  pub order_here : (i : ℕ) → At i ≡ found_place S room k → opens_of S i ≡ true → i ≡ order_index S k
+  order_here : (i : ℕ) → At i ≡ found_place S room k → opens_of S i ≡ true → i ≡ order_index S k
   unfolding order_index
   order_here i e o = let w = found_here i e in let l = first_place in
       sym (least_at holds np i w.0 (λ j lt. second_fails (opens_of S j) (l.before j (omega (arith, w.1)))) (two o (subst (λ i. has_key i ≡ true) (sym w.1) (l.here (omega (arith, w))))))
 
   -- a place that is no passed N
-  pub order_closed : apart (same_place S) np ≡ true → (i : ℕ) → At i ≡ found_place S room k → opens_of S i ≡ false → np ≡ order_index S k
+  order_closed : apart (same_place S) np ≡ true → (i : ℕ) → At i ≡ found_place S room k → opens_of S i ≡ false → np ≡ order_index S k
   order_closed alone i e o = let w = found_here i e in let l = first_place in
       order_none (λ j lt. elim (dec_lt j i) [
         | yes p ↦ second_fails (opens_of S j) (l.before j (omega (arith, w.1)))
@@ -95,10 +97,29 @@ module _ (S : Sheet) (room : ℕ) (k : Key) where
             (apart_each (same_place S) np alone i j (omega (arith, n, eqb-false i j q)) lt))) refl
       ])
 
-  pub order_free : (j : ℕ) → Free j ≡ found_place S room k → np ≡ order_index S k
+  order_free : (j : ℕ) → Free j ≡ found_place S room k → np ≡ order_index S k
   unfolding found_place
   order_free j e = order_none (found_none (λ q. false≢true (ap is_at (e ∙ ap (λ b. cond b (At (place_index S k)) (cond (ltb np room) (Free np) Full)) q))))
 
-  pub order_full : Full ≡ found_place S room k → np ≡ order_index S k
+  order_full : Full ≡ found_place S room k → np ≡ order_index S k
   unfolding found_place
   order_full e = order_none (found_none (λ q. false≢true (ap is_at (e ∙ ap (λ b. cond b (At (place_index S k)) (cond (ltb np room) (Free np) Full)) q))))
+
+  -- so the place of the order with the key
+  there : (i : ℕ) → i ≡ order_index S k → i < np → Some i ≡ order_place S k
+  unfolding order_place
+  there i q h = rw (← q, lt-ltb i np h) refl
+
+  missing : np ≡ order_index S k → None ≡ order_place S k
+  unfolding order_place
+  missing q = rw (← q, le-ltb np np (omega arith)) refl
+
+  pub place_met : apart (same_place S) np ≡ true → (i : ℕ) → At i ≡ found_place S room k → (b : Bool) → b ≡ opens_of S i → then_some b i ≡ order_place S k
+  place_met alone i e true q = there i (order_here i e (sym q)) (found_here i e).0
+  place_met alone i e false q = missing (order_closed alone i e (sym q))
+
+  pub place_free : (j : ℕ) → Free j ≡ found_place S room k → None ≡ order_place S k
+  place_free j e = missing (order_free j e)
+
+  pub place_full : Full ≡ found_place S room k → None ≡ order_place S k
+  place_full e = missing (order_full e)

@@ -15,4 +15,4 @@ find_group-row-requires c = valid_counted _ c.requires
 
 pub returns : goal.returns
 unfolding edit_in_rows deed_in_rows
-returns c = let m = c.args.mem.now in c.set_up.ensures ∙ group_set_up m (mpid_word c.args.mpid) (terms_of _ _ _ _ _ _ _ _) _ (c.listing_number-number.ensures ∙ ap (λ (i : ℕ). first (listing_checks (head_in (rows_of m) opened_at) i (head_in (rows_of m) groups_at) 64)) c.find_group-row.ensures)
+returns c = let m = c.args.mem.now in c.listing_verdict.ensures ∙ group_set_up m (mpid_word c.args.mpid) (terms_of c.args.terms) _ (ap (λ (i : ℕ). first (listing_checks (head_in (rows_of m) opened_at) i (head_in (rows_of m) groups_at) 64)) c.find_group-row.ensures)

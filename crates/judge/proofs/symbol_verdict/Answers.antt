@@ -16,4 +16,4 @@ find_word-row-requires c = let v = valid_counted _ c.requires in search rules
 
 pub returns : goal.returns
 unfolding edit_in_rows deed_in_rows
-returns c = let m = c.args.mem.now in c.set_up.ensures ∙ symbol_set_up m c.args.id _ (c.listing_number-number.ensures ∙ ap (λ (i : ℕ). first (listing_checks (head_in (rows_of m) opened_at) i (head_in (rows_of m) symbols_at) 256)) (c.find_word-row.ensures ∙ first_symbol m c.args.id))
+returns c = let m = c.args.mem.now in c.listing_verdict.ensures ∙ symbol_set_up m c.args.id _ (ap (λ (i : ℕ). first (listing_checks (head_in (rows_of m) opened_at) i (head_in (rows_of m) symbols_at) 256)) (c.find_word-row.ensures ∙ first_symbol m c.args.id))
