@@ -2,6 +2,7 @@
 use mathlib.Core.Path.{◌≡◌, refl, sym, ap, ◌∙◌}
 use mathlib.Core.Bool.{cond}
 use lib.Dec.{eqb}
+use Rattle.std.specs.Prelude.{ℕ, Result, Ok, Err}
 use Rattle.calls.proofs.record.Kinds as record-kinds
 use Rattle.calls.proofs.record.Reads as record-reads
 use Rattle.calls.proofs.block.Kinds as block-kinds
@@ -12,35 +13,35 @@ use Rattle.fields.proofs.Single.{Once}
 use Rattle.fields.specs.Out.{Said}
 use Rattle.calls.specs.Calling.{answer_said, closing_said, Recorded, Closing}
 use Rattle.calls.specs.Blocks.{Block, Took, took}
-use Rattle.calls.specs.declared.Answered.{Answered}
+use Rattle.calls.specs.declared.CallError.{CallError}
+use Rattle.calls.specs.declared.ClosingError.{ClosingError}
 use Rattle.calls.specs.declared.Taken.{Taken}
-use Rattle.calls.specs.declared.Closed.{Closed}
 
 -- an answer is told by its number and its bytes
-abbrev answer_for : Said → Answered
-answer_for x = cond (eqb x.number 0) (Answered.Line x.bytes) (cond (eqb x.number 21) Answered.ShortBuffer Answered.BadState)
+abbrev answer_for : Said → Result ℕ CallError
+answer_for x = cond (eqb x.number 0) (Ok x.bytes) (Err (cond (eqb x.number 21) CallError.ShortBuffer CallError.BadState))
 
-answer_back : (x : Answered) → answer_for (answer_said x) ≡ x
-answer_back (Answered.Line n) = refl
-answer_back Answered.ShortBuffer = refl
-answer_back Answered.BadState = refl
+answer_back : (x : Result ℕ CallError) → answer_for (answer_said x) ≡ x
+answer_back (Ok n) = refl
+answer_back (Err CallError.ShortBuffer) = refl
+answer_back (Err CallError.BadState) = refl
 
-abbrev taken_for : Took → Taken
-taken_for x = cond (eqb x.number 0) (Taken.Lines x.lines x.bytes x.written) (cond (eqb x.number 21) Taken.ShortBuffer Taken.BadState)
+abbrev taken_for : Took → Result Taken CallError
+taken_for x = cond (eqb x.number 0) (Ok (record { count = x.lines; bytes = x.bytes; written = x.written })) (Err (cond (eqb x.number 21) CallError.ShortBuffer CallError.BadState))
 
-taken_back : (x : Taken) → taken_for (took x) ≡ x
-taken_back (Taken.Lines k n w) = refl
-taken_back Taken.ShortBuffer = refl
-taken_back Taken.BadState = refl
+taken_back : (x : Result Taken CallError) → taken_for (took x) ≡ x
+taken_back (Ok t) = refl
+taken_back (Err CallError.ShortBuffer) = refl
+taken_back (Err CallError.BadState) = refl
 
-abbrev closing_for : Said → Closed
-closing_for x = cond (eqb x.number 0) (Closed.Line x.bytes) (cond (eqb x.number 21) Closed.ShortBuffer (cond (eqb x.number 22) Closed.BadState Closed.Unlisted))
+abbrev closing_for : Said → Result ℕ ClosingError
+closing_for x = cond (eqb x.number 0) (Ok x.bytes) (Err (cond (eqb x.number 21) ClosingError.ShortBuffer (cond (eqb x.number 22) ClosingError.BadState ClosingError.Unlisted)))
 
-closing_back : (x : Closed) → closing_for (closing_said x) ≡ x
-closing_back (Closed.Line n) = refl
-closing_back Closed.ShortBuffer = refl
-closing_back Closed.BadState = refl
-closing_back Closed.Unlisted = refl
+closing_back : (x : Result ℕ ClosingError) → closing_for (closing_said x) ≡ x
+closing_back (Ok n) = refl
+closing_back (Err ClosingError.ShortBuffer) = refl
+closing_back (Err ClosingError.BadState) = refl
+closing_back (Err ClosingError.Unlisted) = refl
 
 record_once : Once 3 record-kinds.ps record-kinds.r record-reads.Post (λ κs x s. x)
 record_once κs a x y s t p q = sym (answer_back x) ∙ ap (λ (r : Recorded). answer_for r.said) (p ∙ sym q) ∙ answer_back y

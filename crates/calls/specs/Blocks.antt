@@ -1,8 +1,10 @@
 -- Document 02, order 4: what a block of lines in one call leaves, as the record call made for one line after the other.
-use Rattle.std.specs.Prelude.{Bool, cond, List, [], ◌∷◌, ◌++◌, ℕ, ◌+◌, ltb, eqb, length, take, drop}
+use Rattle.std.specs.Prelude.{cond, List, [], ◌∷◌, ◌++◌, ℕ, ◌+◌, ltb, eqb, length, take, drop, Result, Ok, Err}
 use Rattle.laws.specs.Checks.{first}
 use Rattle.lines.specs.Splitting.{whole}
-use Rattle.calls.specs.Calling.{refusals, recorded}
+use Rattle.calls.specs.Calling.{call_number, refusals, recorded}
+use Rattle.calls.specs.declared.CallError.{CallError}
+use Rattle.calls.specs.declared.Lent.{Lent}
 use Rattle.calls.specs.declared.Taken.{Taken}
 
 -- "says how many lines it took", how many bytes they have and how many were written for them
@@ -37,9 +39,10 @@ asked m ls b = let n = first (refusals 32 m b) in cond (eqb n 0) (one_by_one m l
 abbrev pub blocked : List ℕ → List ℕ → List ℕ → Block
 blocked m text b = asked m (whole [] text) b
 
--- a text as one line, or the lines that end in it
-abbrev pub lines_of : Bool → List ℕ → List (List ℕ)
-lines_of alone text = cond alone (text ∷ []) (whole [] text)
+-- a line alone, or the lines that end in a block
+abbrev pub lines_of : Lent → List (List ℕ)
+lines_of (Lent.Line l) = l.now ∷ []
+lines_of (Lent.Block text) = whole [] text.now
 
 -- what the code answers: 21, 22, or what was taken
 pub record Took : Type 0 where
@@ -48,10 +51,12 @@ pub record Took : Type 0 where
   pub bytes : ℕ
   pub written : ℕ
 
-abbrev pub took : Taken → Took
-took (Taken.Lines k n w) = record { number = 0; lines = k; bytes = n; written = w }
-took Taken.ShortBuffer = record { number = 21; lines = 0; bytes = 0; written = 0 }
-took Taken.BadState = record { number = 22; lines = 0; bytes = 0; written = 0 }
+abbrev pub taken_lines : ℕ → ℕ → ℕ → Took
+taken_lines k n w = record { number = 0; lines = k; bytes = n; written = w }
+
+abbrev pub took : Result Taken CallError → Took
+took (Ok t) = taken_lines t.count t.bytes t.written
+took (Err why) = record { number = call_number why; lines = 0; bytes = 0; written = 0 }
 
 abbrev pub block_left : Took → List ℕ → List ℕ → Block
 block_left x m b = record { number = x.number; lines = x.lines; bytes = x.bytes; written = x.written; memory = m; buffer = b }

@@ -1,5 +1,5 @@
 -- Document 01, "Outcomes" and "A whole day": what the public calls answer, and the memory and the buffer after each.
-use Rattle.std.specs.Prelude.{not, cond, List, [], ◌∷◌, ℕ, ltb, eqb, length}
+use Rattle.std.specs.Prelude.{not, cond, List, [], ◌∷◌, ℕ, ltb, eqb, length, Result, Ok, Err}
 use Rattle.std.proofs.Math.Option.{Option, Option-elim}
 use Prim.Native.Char.{code}
 use Rattle.std.proofs.Math.ListN.{get_elem?}
@@ -13,8 +13,8 @@ use Rattle.answers.specs.Answering.{answer_bytes, closing_bytes}
 use Rattle.books.specs.View.{view}
 use Rattle.books.specs.Writing.{write}
 use Rattle.rules.specs.Testing.{state_ok}
-use Rattle.calls.specs.declared.Answered.{Answered}
-use Rattle.calls.specs.declared.Closed.{Closed}
+use Rattle.calls.specs.declared.CallError.{CallError}
+use Rattle.calls.specs.declared.ClosingError.{ClosingError}
 
 -- ── what a call says ──
 -- that so many bytes were written, and that these were
@@ -24,16 +24,23 @@ bytes_said n = record { number = 0; bytes = n }
 abbrev pub wrote : List ℕ → Said
 wrote cs = bytes_said (length cs)
 
-abbrev pub answer_said : Answered → Said
-answer_said (Answered.Line n) = bytes_said n
-answer_said Answered.ShortBuffer = refuses 21
-answer_said Answered.BadState = refuses 22
+-- the number of each refusal
+abbrev pub call_number : CallError → ℕ
+call_number CallError.ShortBuffer = 21
+call_number CallError.BadState = 22
 
-abbrev pub closing_said : Closed → Said
-closing_said (Closed.Line n) = bytes_said n
-closing_said Closed.ShortBuffer = refuses 21
-closing_said Closed.BadState = refuses 22
-closing_said Closed.Unlisted = refuses 5
+abbrev pub closing_number : ClosingError → ℕ
+closing_number ClosingError.ShortBuffer = 21
+closing_number ClosingError.BadState = 22
+closing_number ClosingError.Unlisted = 5
+
+abbrev pub answer_said : Result ℕ CallError → Said
+answer_said (Ok n) = bytes_said n
+answer_said (Err why) = refuses (call_number why)
+
+abbrev pub closing_said : Result ℕ ClosingError → Said
+closing_said (Ok n) = bytes_said n
+closing_said (Err why) = refuses (closing_number why)
 
 -- "21, 22": a buffer under so many bytes, a lent state that breaks a state rule or is too short
 abbrev pub refusals : ℕ → List ℕ → List ℕ → List Check

@@ -1,5 +1,5 @@
 -- The index from line to line: what a record does to the table's keys.
-use Rattle.std.specs.Prelude.{◌≡◌, refl, Bool, true, false, cond, List, [], ◌∷◌, ◌++◌, ℕ, ◌+◌, ◌≤◌, length}
+use Rattle.std.specs.Prelude.{◌≡◌, refl, true, List, [], ◌∷◌, ◌++◌, ℕ, ◌+◌, ◌≤◌, length}
 use Rattle.std.proofs.Common.{sym, ap, ◌∙◌, subst, append-nil, arith}
 use Rattle.laws.specs.Numbered.{apart}
 use Rattle.rulebook.specs.Kept.{Asked, Books}
@@ -14,14 +14,16 @@ use Rattle.rules.specs.Testing.{state_ok}
 use Rattle.rules.specs.Meaning.{exactly}
 use Rattle.calls.specs.Calling.{said_by, recorded}
 use Rattle.calls.specs.Keeping.{state_kept, books_after}
+use Rattle.calls.specs.declared.Lent.{Lent}
 
 -- how many places an index has to hold
-abbrev pub most_places : Bool → List ℕ → ℕ
-most_places alone m = cond alone (head_in (rows_of m) places_at) (room_of m)
+abbrev pub most_places : Lent → List ℕ → ℕ
+most_places (Lent.Line l) m = head_in (rows_of m) places_at
+most_places (Lent.Block text) m = room_of m
 
-pub most_enough : (alone : Bool) (m : List ℕ) → Counted m → (head_in (rows_of m) places_at ≤ most_places alone m) × (most_places alone m ≤ 65_536)
-most_enough true m c = (omega arith, omega (arith, c.few_places, c.most))
-most_enough false m c = (c.few_places, omega (arith, c.most))
+pub most_enough : (x : Lent) (m : List ℕ) → Counted m → (head_in (rows_of m) places_at ≤ most_places x m) × (most_places x m ≤ 65_536)
+most_enough (Lent.Line l) m c = (omega arith, omega (arith, c.few_places, c.most))
+most_enough (Lent.Block text) m c = (c.few_places, omega (arith, c.most))
 
 pub clear_less : {heads links : List ℕ} {n k : ℕ} → n ≤ k → Clear heads links k → Clear heads links n
 clear_less le c = record { some = c.some; few = c.few; long = omega (arith, c.long); unset = c.unset }

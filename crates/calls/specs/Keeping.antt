@@ -1,5 +1,5 @@
 -- What the public calls keep, and what they write.
-use Rattle.std.specs.Prelude.{◌≡◌, true, false, List, ℕ, ◌≤◌, ◌<◌, length, replicate}
+use Rattle.std.specs.Prelude.{◌≡◌, true, false, List, ℕ, ◌≤◌, ◌<◌, length, replicate, Result, Ok, IsOk, is_ok}
 use Rattle.std.proofs.Math.Path.{refl}
 use Rattle.std.proofs.Common.{sym, ap, ◌∙◌, subst, arith, lt-ltb, le-ltb}
 use Rattle.std.proofs.Math.Option.{none, some, Option-elim}
@@ -10,10 +10,9 @@ use Rattle.rulebook.specs.Outcomes.{answer_line, closing_line}
 use Rattle.rulebook.specs.Day.{step}
 use Rattle.fields.specs.Forms.{IsLine}
 use Rattle.fields.specs.Out as out
-use Rattle.fields.specs.Out.{Left, left, room_number, refuses, begun}
+use Rattle.fields.specs.Out.{Left, left, refuses, begun}
 use Rattle.fields.specs.Puts.{room}
-use Rattle.fields.specs.declared.Written.{Written}
-use Rattle.fields.specs.declared.Written.TheVariants.{Bytes, NoRoom}
+use Rattle.fields.specs.declared.WriteError.{WriteError}
 use Rattle.codec.proofs.Lines.{read_formed}
 use Rattle.answers.specs.Lines.{gate_answer, gate_closing}
 use Rattle.books.specs.Layout.{least_words}
@@ -27,25 +26,21 @@ use Rattle.rules.specs.Meaning.{exactly}
 use Rattle.calls.specs.Calling.{refusals, wrote, said_by, verdict_on, answer_to, Recorded, record_left, recorded, group_at, closing_left, closing_of, closed}
 
 -- ── a line that has room is written whole ──
-abbrev pub count_of : Written → ℕ
-count_of (Bytes n) = n
-count_of NoRoom = 0
-
-module _ (most : ℕ) (cs b after : List ℕ) (w : Written) (e : left after w ≡ out.wrote most cs b) (h : (length cs ≤ most) × (most ≤ length b)) where
-  wrote_room : left after w ≡ left (begun cs b) (Bytes (length cs))
+module _ (most : ℕ) (cs b after : List ℕ) (w : Result ℕ WriteError) (e : left after w ≡ out.wrote most cs b) (h : (length cs ≤ most) × (most ≤ length b)) where
+  wrote_room : left after w ≡ left (begun cs b) (Ok (length cs))
   wrote_room = e ∙ room most cs b h.0 (omega arith)
 
   pub line_begun : after ≡ begun cs b
   line_begun = ap (λ (x : Left). x.buffer) wrote_room
 
-  line_said : w ≡ Bytes (length cs)
+  line_said : w ≡ Ok (length cs)
   line_said = ap (λ (x : Left). x.said) wrote_room
 
-  pub line_count : (n : ℕ) → w ≡ Bytes n → n ≡ length cs
-  line_count n q = ap count_of (sym q ∙ line_said)
+  pub line_count : (n : ℕ) → w ≡ Ok n → n ≡ length cs
+  line_count n q = let said = line_said in cc
 
-  pub has_room : w ≡ NoRoom → ⊥
-  has_room q = let z : ◌≡◌ {A = ℕ} 21 0 = ap room_number (sym q ∙ line_said) in omega arith
+  pub is_written : IsOk w
+  is_written = ap is_ok line_said
 
 -- ── 21, 22, or neither ──
 module _ (least : ℕ) (m b : List ℕ) where

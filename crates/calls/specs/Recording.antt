@@ -23,15 +23,15 @@ use Rattle.calls.specs.Keeping.{answer_written}
 pub record Told (m l : List ℕ) (r : Reading) (w : Verdict) : Type 0 where
   pub storable : Storable (room_of m) m (edit_stored (rows_of m) w.edit)
   pub written : run (layout (room_of m)) (edit_stored (rows_of m) w.edit) m ≡ write (verdict_on m l).edit m
-  pub answer : answer_bytes l r w.outcome w.number w.sent ≡ answer_to m l
-  pub short : length (answer_bytes l r w.outcome w.number w.sent) ≤ 32
+  pub answer : answer_bytes l r w.answer.outcome w.answer.number w.answer.sent ≡ answer_to m l
+  pub short : length (answer_bytes l r w.answer.outcome w.answer.number w.answer.sent) ≤ 32
 
 pub told : (m l : List ℕ) → state_ok m ≡ true → (r : Reading) → r ≡ reading l → (w : Verdict) → w ≡ verdict_in_rows (rows_of m) (judge (view m) (record_of l r)) → Told m l r w
 unfolding verdict_in_rows
 told m l e r q w j =
     let v : w ≡ verdict_in_rows (rows_of m) (verdict_on m l) = j ∙ ap (λ r. verdict_in_rows (rows_of m) (judge (view m) (record_of l r))) q in
     let edit : w.edit ≡ edit_in_rows (rows_of m) (verdict_on m l).edit = ap (λ (w : Verdict). w.edit) v in
-    let answer : answer_bytes l r w.outcome w.number w.sent ≡ answer_to m l = λ i. answer_bytes l (q i) (v i).outcome (v i).number (v i).sent in
+    let answer : answer_bytes l r w.answer.outcome w.answer.number w.answer.sent ≡ answer_to m l = λ i. answer_bytes l (q i) (v i).answer.outcome (v i).answer.number (v i).answer.sent in
     record {
       storable = subst (λ e. Storable (room_of m) m (edit_stored (rows_of m) e)) (sym edit) (apt_storable m (valid_counted m ((exactly m).0 e)) (verdict_on m l).edit (judged_apt (view m) (said_by l)));
       written = ap (λ e. run (layout (room_of m)) (edit_stored (rows_of m) e) m) edit ∙ stored_written m (verdict_on m l).edit;

@@ -1,5 +1,5 @@
 -- The lines of a block one after the other: one line more, and the end.
-use Rattle.std.specs.Prelude.{◌≡◌, true, false, List, [], ◌∷◌, ◌++◌, ℕ, ◌+◌, ◌-◌, ◌≤◌, ◌<◌, length, take, drop}
+use Rattle.std.specs.Prelude.{◌≡◌, true, false, List, [], ◌∷◌, ◌++◌, ℕ, ◌+◌, ◌-◌, ◌≤◌, ◌<◌, length, take, drop, Result}
 use Rattle.std.proofs.Math.Path.{refl}
 use Rattle.std.proofs.Common.{sym, ap, ◌∙◌, subst, append_assoc, append-nil, zero-add, arith, length-append, length-drop, take-append-drop, drop_of_length-le, length-take-le, take_all, lt-ltb, le-ltb}
 use Rattle.std.proofs.Math.Decide.{dec_lt}
@@ -12,7 +12,8 @@ use Rattle.lines.specs.Splitting.{whole, line_at}
 use Rattle.lines.proofs.Places.{step_on, step_none}
 use Rattle.calls.specs.Calling.{bytes_said, verdict_on, answer_to, Recorded, record_left, recorded}
 use Rattle.calls.specs.Keeping.{too_short, state_bad, not_refused, short_buffer, bad_state, judged_line, state_kept, answer_written}
-use Rattle.calls.specs.Blocks.{Block, idle, before, one_by_one, asked, blocked, took, block_left}
+use Rattle.calls.specs.Blocks.{Block, idle, before, one_by_one, asked, blocked, taken_lines, took, block_left}
+use Rattle.calls.specs.declared.CallError.{CallError}
 use Rattle.calls.specs.declared.Taken.{Taken}
 
 -- lines taken before lines taken
@@ -97,17 +98,17 @@ module _ (text : List ℕ) (count at end : ℕ) (m b : List ℕ) where
       ∙ sym (λ x. before (count + 1) (at + length l) (front_then b end within ys n x) (one_by_one k (whole [] (drop (at + length l) text)) (rest_then b end within ys n x)))
 
   -- no more is taken
-  ended : end ≤ length b → before count at (take end b) (idle 0 m (drop end b)) ≡ block_left (took (Taken.Lines count at end)) m b
+  ended : end ≤ length b → before count at (take end b) (idle 0 m (drop end b)) ≡ block_left (taken_lines count at end) m b
   ended within =
       let lines : count + 0 ≡ count = omega arith in
       let bytes : at + 0 ≡ at = omega arith in
       let written : length (take end b) + 0 ≡ end = omega (arith, length-take-le end b within) in
       λ x. record { number = 0; lines = lines x; bytes = bytes x; written = written x; memory = m; buffer = take-append-drop end b x }
 
-  pub no_more_room : end ≤ length b → length b - end < 32 → so_far text count at end m b ≡ block_left (took (Taken.Lines count at end)) m b
+  pub no_more_room : end ≤ length b → length b - end < 32 → so_far text count at end m b ≡ block_left (taken_lines count at end) m b
   no_more_room within h = ap (before count at (take end b)) (no_room m (whole [] (drop at text)) (drop end b) (rw length-drop h)) ∙ ended within
 
-  pub no_more_lines : (l : List ℕ) → l ≡ line_at text at → length l ≡ 0 → end ≤ length b → so_far text count at end m b ≡ block_left (took (Taken.Lines count at end)) m b
+  pub no_more_lines : (l : List ℕ) → l ≡ line_at text at → length l ≡ 0 → end ≤ length b → so_far text count at end m b ≡ block_left (taken_lines count at end) m b
   no_more_lines l q z within = ap (λ ls. before count at (take end b) (one_by_one m ls (drop end b))) (step_none text at (sym (ap length q) ∙ z)).0 ∙ ap (before count at (take end b)) (no_line m (drop end b)) ∙ ended within
 
 -- ── 21 and 22 are tested once ──
@@ -132,7 +133,7 @@ module _ (m l b : List ℕ) (ok : state_ok m ≡ true) (room : 32 ≤ length b) 
   abbrev memory : List ℕ
   memory = write (verdict_on m l).edit m
 
-  alone_judged : asked m (l ∷ []) b ≡ block_left (took (Taken.Lines 1 (length l) (length answer))) memory (begun answer b)
+  alone_judged : asked m (l ∷ []) b ≡ block_left (taken_lines 1 (length l) (length answer)) memory (begun answer b)
   alone_judged =
       let bytes : length l + 0 ≡ length l = omega arith in
       let written : length answer + 0 ≡ length answer = omega arith in
@@ -140,8 +141,8 @@ module _ (m l b : List ℕ) (ok : state_ok m ≡ true) (room : 32 ≤ length b) 
       ∙ (λ x. record { number = 0; lines = 1; bytes = bytes x; written = written x; memory = memory; buffer = begun answer b })
 
   -- what the record call leaves, as a block of one line
-  pub one_taken : {k ys : List ℕ} {n : ℕ} → record_left (bytes_said n) k ys ≡ recorded m l b → block_left (took (Taken.Lines 1 (length l) n)) k ys ≡ asked m (l ∷ []) b
-  one_taken e = ap (λ (r : Recorded). block_left (took (Taken.Lines 1 (length l) r.said.bytes)) r.memory r.buffer) (e ∙ judged_line m l b room ok) ∙ sym alone_judged
+  pub one_taken : {k ys : List ℕ} {n : ℕ} → record_left (bytes_said n) k ys ≡ recorded m l b → block_left (taken_lines 1 (length l) n) k ys ≡ asked m (l ∷ []) b
+  one_taken e = ap (λ (r : Recorded). block_left (taken_lines 1 (length l) r.said.bytes) r.memory r.buffer) (e ∙ judged_line m l b room ok) ∙ sym alone_judged
 
 -- and a block of one line is what the record call leaves
 alone_recorded : (m l b : List ℕ) → let t = asked m (l ∷ []) b in record_left (record { number = t.number; bytes = t.written }) t.memory t.buffer ≡ recorded m l b
@@ -152,8 +153,8 @@ alone_recorded m l b = elim (dec_lt (length b) 32) [
       (λ z e. rw (alone_judged m l b e room, judged_line m l b room e) refl) (λ z e. rw (block_bad m (l ∷ []) b room e, bad_state m l b room e) refl) refl
 ]
 
-pub recorded_by : (m l b : List ℕ) {k ys : List ℕ} {x : Taken} (y : Taken) → x ≡ y → block_left (took x) k ys ≡ asked m (l ∷ []) b → record_left (record { number = (took y).number; bytes = (took y).written }) k ys ≡ recorded m l b
-recorded_by m l b {k} {ys} y q e = ap (λ (t : Block). record_left (record { number = t.number; bytes = t.written }) t.memory t.buffer) (ap (λ z. block_left (took z) k ys) (sym q) ∙ e) ∙ alone_recorded m l b
+pub recorded_by : (m l b : List ℕ) {k ys : List ℕ} (x : Result Taken CallError) → block_left (took x) k ys ≡ asked m (l ∷ []) b → record_left (record { number = (took x).number; bytes = (took x).written }) k ys ≡ recorded m l b
+recorded_by m l b x e = ap (λ (t : Block). record_left (record { number = t.number; bytes = t.written }) t.memory t.buffer) e ∙ alone_recorded m l b
 
 -- what is not refused has room and a state that meets the rules
 pub block_clear : (m : List ℕ) (ls : List (List ℕ)) (b : List ℕ) → (asked m ls b).number ≡ 0 → (32 ≤ length b) × (state_ok m ≡ true)

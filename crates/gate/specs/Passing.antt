@@ -12,9 +12,8 @@ use Rattle.lines.proofs.Places as places
 use Rattle.lines.proofs.Places.{lines_taken, taken_some, none_ends}
 use Rattle.lines.proofs.Lending.{Line, whole_lines, lent_says}
 use Rattle.calls.specs.Calling.{recorded}
-use Rattle.calls.specs.Blocks.{Block, one_by_one, blocked, took, block_left}
+use Rattle.calls.specs.Blocks.{Block, one_by_one, blocked, taken_lines, block_left}
 use Rattle.calls.specs.Taking.{tail, tail_is, Ran, ran, block_clear, block_judged, no_line}
-use Rattle.calls.specs.declared.Taken.{Taken}
 use Rattle.promises.specs.Day.{Call, Ample, after, left}
 use Rattle.promises.proofs.Carrying.{booked, all_booked, left_is}
 use Rattle.promises.proofs.Blocks.{Lent, block_of, makes_block, block_booked}
@@ -43,7 +42,7 @@ pub record Passed (text : List ℕ) (at : ℕ) (m b : List ℕ) (n w : ℕ) (aft
   pub all_done : 32 ≤ length b - w → whole [] (drop (at + n) text) ≡ []
   pub some_done : length b - w < 32 → 1 ≤ n
 
-module _ (u m b : List ℕ) {k n w : ℕ} {m' b' : List ℕ} (e : block_left (took (Taken.Lines k n w)) m' b' ≡ blocked m u b) where
+module _ (u m b : List ℕ) {k n w : ℕ} {m' b' : List ℕ} (e : block_left (taken_lines k n w) m' b' ≡ blocked m u b) where
   abbrev ls : List (List ℕ)
   ls = whole [] u
 

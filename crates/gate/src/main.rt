@@ -14,10 +14,9 @@ ghost use Rattle.calls.specs.Calling.{recorded};
 ghost use Rattle.promises.specs.Day.{left};
 ghost use Rattle.gate.specs.Turns.{call_for, LinesPassed, HeldFew};
 
-use calls::{Answered, Closed, Taken};
-use fields::Place;
+use calls::ClosingError;
+use fields::{Place, Writer};
 use std::io;
-use store::Made;
 
 const PLACES: usize = 400;
 
@@ -31,86 +30,40 @@ const ANSWER: usize = 32;
 
 const CLOSING: usize = 96;
 
-// The answers so far: how many bytes of them wait to be written, or that no more can be answered.
+// The program is to stop: standard error says why, unless the output was closed.
 #[derive(Clone, Copy)]
-enum Answers {
-    Waiting(usize),
-    NoMore,
-}
-
-// Where the text ends after a read; that nothing was left to read; or that the read failed.
-#[derive(Clone, Copy)]
-enum Read {
-    UpTo(usize),
-    Nothing,
-    Failed,
-}
-
-// How far a text is judged: up to a place, or that the program is to stop.
-#[derive(Clone, Copy)]
-enum Judged {
-    UpTo(usize),
-    Stopped,
-}
-
-// What a read brought: a block, judged, of which so many bytes are held; the end of the input; or that the program is to stop.
-#[derive(Clone, Copy)]
-enum Turn {
-    Held(usize),
-    Ended,
-    Broken,
-}
-
-// Whether a group's closing line is put, with the bytes that wait then; that no group is left; or that no more can be answered.
-#[derive(Clone, Copy)]
-enum Closing {
-    Waiting(usize),
-    NoGroup,
-    NoMore,
-}
+struct Stopped;
 
 // Says what failed, and why.
-fn say_failed(rt: &impl Eprint, what: &str, why: io::Error) {
+fn failed(rt: &impl Eprint, what: &str, why: io::Error) -> Stopped {
     let _ = eprintln!(rt; "{what}: {why}");
-}
-
-// Writes the answers that wait, and answers whether all were written. Standard error says why not, unless the output was closed.
-fn is_written(rt: &(impl Print + Eprint), answers: &[u8], count: usize) -> bool {
-    let waiting = fields::part(answers, Place { from: 0, to: count });
-    let Err(why) = rt.write_all(waiting) else {
-        return true;
-    };
-    if why.kind() != io::ErrorKind::BrokenPipe {
-        say_failed(rt, "standard output", why);
-    }
-    false
-}
-
-// Puts bytes from a place on, and answers where they end.
-fn put_bytes(to: &mut [u8], at: usize, bytes: &[u8]) -> usize {
-    let mut end = at;
-    let mut i = 0;
-    while i < bytes.len() {
-        end = fields::put(to, end, bytes[i]);
-        i += 1;
-    }
-    end
-}
-
-// Puts a line of at most 96 bytes after the answers that wait. Where there may be no room for it, they are written first.
-fn put_line(rt: &(impl Print + Eprint), answers: &mut [u8], count: usize, line: &[u8]) -> Answers {
-    if count <= BLOCK - CLOSING {
-        return Answers::Waiting(put_bytes(answers, count, line));
-    }
-    if is_written(rt, answers, count) {
-        return Answers::Waiting(put_bytes(answers, 0, line));
-    }
-    Answers::NoMore
+    Stopped
 }
 
 // Says that a call refuses the program's own memory or buffer.
-fn say_refused(rt: &impl Eprint) {
-    let _ = rt.eprintln("gate: its own state is refused");
+fn refused(rt: &impl Eprint) -> Stopped {
+    let _ = eprintln!(rt; "gate: its own state is refused");
+    Stopped
+}
+
+// Writes the first bytes of the answers, so many as there are.
+fn write_answers(rt: &(impl Print + Eprint), answers: &[u8], count: usize) -> Result<(), Stopped> {
+    match rt.write_all(fields::part(answers, Place { from: 0, to: count })) {
+        Ok(()) => Ok(()),
+        Err(why) if why.kind() == io::ErrorKind::BrokenPipe => Err(Stopped),
+        Err(why) => Err(failed(rt, "standard output", why)),
+    }
+}
+
+// Puts a line of at most 96 bytes after the answers that wait. Where there may be no room for it, they are written first.
+fn put_line(rt: &(impl Print + Eprint), waiting: &mut Writer, line: &[u8]) -> Result<(), Stopped> {
+    let count = waiting.at;
+    if count > BLOCK - CLOSING {
+        write_answers(rt, waiting.to, count)?;
+        waiting.at = 0;
+    }
+    waiting.put_all(line);
+    Ok(())
 }
 
 // Judges the lines that end in a text, and writes their answers. Answers where the last of them ends. Where the answers may not have room for
@@ -120,46 +73,42 @@ fn judge_lines(
     mem: &mut [u64],
     text: &[u8],
     answers: &mut [u8],
-) -> Judged
+) -> Result<usize, Stopped>
     ensures { LinesPassed text.now mem.old result mem.new }
 {
+    // kept: no plainer: a turn goes on where the block call stopped, by as many bytes as it took
     let mut at = 0;
     loop {
-        let Taken::Lines {
-            count: _,
-            bytes,
-            written,
-        } = calls::block(mem, &text[at..], answers)
-        else {
-            say_refused(rt);
-            return Judged::Stopped;
+        let Ok(taken) = calls::block(mem, &text[at..], answers) else {
+            return Err(refused(rt));
         };
-        if !is_written(rt, answers, written) {
-            return Judged::Stopped;
-        }
-        at += bytes;
-        if answers.len() - written >= ANSWER {
-            break;
+        write_answers(rt, answers, taken.written)?;
+        at += taken.bytes;
+        if answers.len() - taken.written >= ANSWER {
+            return Ok(at);
         }
     }
-    Judged::UpTo(at)
 }
 
-// Reads once, after the bytes that are held, and answers where the text then ends. Standard error says why a read failed.
-fn read_after(rt: &impl Eprint, input: &mut impl io::Read, text: &mut [u8], held: usize) -> Read
+// Reads once, after the bytes that are held, and answers where the text then ends; none where nothing was left to read.
+// kept: rule of the project, no heap: `text` and `held` go together here and below, a block and how much of it is used
+fn read_after(
+    rt: &impl Eprint,
+    input: &mut impl io::Read,
+    text: &mut [u8],
+    held: usize,
+) -> Result<Option<usize>, Stopped>
     requires { held ≤ length text.old }
 {
-    match io::Read::read(input, &mut text[held..]) {
-        Ok(0) => Read::Nothing,
-        Ok(count) => Read::UpTo(held + count),
-        Err(why) => {
-            say_failed(rt, "standard input", why);
-            Read::Failed
-        }
+    match input.read(&mut text[held..]) {
+        Ok(0) => Ok(None),
+        Ok(count) => Ok(Some(held + count)),
+        Err(why) => Err(failed(rt, "standard input", why)),
     }
 }
 
-// Reads a block after the bytes that are held, and judges the lines that end in it. What follows them is held, 161 bytes of it at most.
+// Reads a block after the bytes that are held, and judges the lines that end in it. What follows them is held, 161 bytes of it at most: answers
+// how many, or none where the input has ended.
 fn judge_block(
     rt: &(impl Print + Eprint),
     input: &mut impl io::Read,
@@ -167,19 +116,15 @@ fn judge_block(
     text: &mut [u8],
     held: usize,
     answers: &mut [u8],
-) -> Turn
+) -> Result<Option<usize>, Stopped>
     requires { held ≤ length text.old }
     ensures { HeldFew result }
 {
-    let to = match read_after(rt, input, text, held) {
-        Read::UpTo(end) => end,
-        Read::Nothing => return Turn::Ended,
-        Read::Failed => return Turn::Broken,
+    let Some(to) = read_after(rt, input, text, held)? else {
+        return Ok(None);
     };
-    match judge_lines(rt, mem, fields::part(text, Place { from: 0, to }), answers) {
-        Judged::UpTo(at) => Turn::Held(lines::keep_rest(text, at, to)),
-        Judged::Stopped => Turn::Broken,
-    }
+    let at = judge_lines(rt, mem, fields::part(text, Place { from: 0, to }), answers)?;
+    Ok(Some(lines::keep_rest(text, at, to)))
 }
 
 // Judges a last part that the input ends without LF. Where it is empty there is none.
@@ -187,111 +132,87 @@ fn judge_last(
     rt: &(impl Print + Eprint),
     mem: &mut [u64],
     part: &[u8],
-    answers: &mut [u8],
-) -> Answers
+    waiting: &mut Writer,
+) -> Result<(), Stopped>
     ensures { mem.new ≡ left recorded mem.old (map call_for (last part.now)) }
 {
-    if part.len() == 0 {
-        return Answers::Waiting(0);
+    if part.is_empty() {
+        return Ok(());
     }
     let mut answer = [0u8; ANSWER];
-    let Answered::Line(to) = calls::record(mem, part, &mut answer) else {
-        say_refused(rt);
-        return Answers::NoMore;
+    let Ok(to) = calls::record(mem, part, &mut answer) else {
+        return Err(refused(rt));
     };
-    put_line(rt, answers, 0, fields::part(&answer, Place { from: 0, to }))
+    put_line(rt, waiting, fields::part(&answer, Place { from: 0, to }))
 }
 
-// Puts the closing line of the group at a place in listing order.
+// Puts the closing line of the group at a place in listing order. Answers whether there is one.
 fn put_closing(
     rt: &(impl Print + Eprint),
     mem: &[u64],
     place: usize,
-    answers: &mut [u8],
-    count: usize,
-) -> Closing {
+    waiting: &mut Writer,
+) -> Result<bool, Stopped> {
     let mut line = [0u8; CLOSING];
     match calls::closing(mem, place, &mut line) {
-        Closed::Line(to) => {
-            let line = fields::part(&line, Place { from: 0, to });
-            match put_line(rt, answers, count, line) {
-                Answers::Waiting(waiting) => Closing::Waiting(waiting),
-                Answers::NoMore => Closing::NoMore,
-            }
+        Ok(to) => {
+            put_line(rt, waiting, fields::part(&line, Place { from: 0, to }))?;
+            Ok(true)
         }
-        Closed::Unlisted => Closing::NoGroup,
-        Closed::ShortBuffer | Closed::BadState => {
-            say_refused(rt);
-            Closing::NoMore
-        }
+        Err(ClosingError::Unlisted) => Ok(false),
+        Err(ClosingError::ShortBuffer | ClosingError::BadState) => Err(refused(rt)),
     }
 }
 
-// Puts the closing line of every group in listing order.
-fn put_closings(
+// Judges the last part, and writes its answer and the closing line of every group in listing order.
+fn close_day(
     rt: &(impl Print + Eprint),
-    mem: &[u64],
+    mem: &mut [u64],
+    last: &[u8],
     answers: &mut [u8],
-    count: usize,
-) -> Answers {
-    let mut waiting = count;
+) -> Result<(), Stopped> {
+    let mut waiting = Writer { to: answers, at: 0 };
+    judge_last(rt, mem, last, &mut waiting)?;
     for place in 0..books::MOST_GROUPS {
-        match put_closing(rt, mem, place, answers, waiting) {
-            Closing::Waiting(more) => waiting = more,
-            Closing::NoGroup => return Answers::Waiting(waiting),
-            Closing::NoMore => return Answers::NoMore,
+        if !put_closing(rt, mem, place, &mut waiting)? {
+            break;
         }
     }
-    Answers::Waiting(waiting)
+    let Writer { to, at } = waiting;
+    write_answers(rt, to, at)
 }
 
-// Judges the last part, and writes its answer and the closing lines.
-fn close_day(rt: &(impl Print + Eprint), mem: &mut [u64], last: &[u8], answers: &mut [u8]) {
-    let Answers::Waiting(count) = judge_last(rt, mem, last, answers) else {
-        return;
-    };
-    let Answers::Waiting(waiting) = put_closings(rt, mem, answers, count) else {
-        return;
-    };
-    is_written(rt, answers, waiting);
-}
-
-// Judges block after block to the end of the input, and closes the day. A proved loop has to end, and nothing says that an input does: so the
-// turns are counted, up to a number that no run uses up.
+// Judges block after block to the end of the input, and closes the day. The turns are counted, up to a number that no run uses up.
+// kept: no plainer: a proved loop has to end, and nothing says that an input does
 fn judge_day(
     rt: &(impl Print + Eprint),
     input: &mut impl io::Read,
     mem: &mut [u64],
     text: &mut [u8],
     answers: &mut [u8],
-)
+) -> Result<(), Stopped>
     requires { 161 ≤ length text.old }
 {
     let mut held = 0;
     for _ in 0..u64::MAX {
-        match judge_block(rt, input, mem, text, held, answers) {
-            Turn::Held(count) => held = count,
-            Turn::Ended => {
-                close_day(
-                    rt,
-                    mem,
-                    fields::part(text, Place { from: 0, to: held }),
-                    answers,
-                );
-                return;
+        match judge_block(rt, input, mem, text, held, answers)? {
+            Some(count) => held = count,
+            None => {
+                let last = fields::part(text, Place { from: 0, to: held });
+                return close_day(rt, mem, last, answers);
             }
-            Turn::Broken => return,
         }
     }
+    Ok(())
 }
 
 fn main(rt: HostRuntime) {
     let mut mem = [0u64; WORDS];
-    let Made::Done = store::make_fresh(&mut mem) else {
-        say_refused(&rt);
+    if store::make_fresh(&mut mem).is_err() {
+        refused(&rt);
         return;
-    };
+    }
     let mut text = [0u8; BLOCK];
     let mut answers = [0u8; BLOCK];
-    judge_day(&rt, &mut rt.stdin(), &mut mem, &mut text, &mut answers);
+    let _ = judge_day(&rt, &mut rt.stdin(), &mut mem, &mut text, &mut answers);
 }

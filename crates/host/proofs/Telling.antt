@@ -1,6 +1,6 @@
 -- What a call says, told as one number: that it fits an i64, and that it is what the call below says.
-use Rattle.std.specs.Prelude.{◌≡◌, refl, Bool, true, cond, List, [], ℕ, zero, suc, ◌+◌, ◌*◌, ◌≤◌, ◌<◌, ◌^◌, pos, negsuc, length, ltb}
-use Rattle.std.proofs.Common.{sym, ap, ◌∙◌, subst, arith}
+use Rattle.std.specs.Prelude.{◌≡◌, refl, Bool, true, cond, List, [], ℕ, zero, suc, ◌+◌, ◌*◌, ◌≤◌, ◌<◌, ◌^◌, pos, negsuc, length, ltb, Result, Ok, Err}
+use Rattle.std.proofs.Common.{sym, ap, subst, arith}
 use Rattle.std.proofs.Math.Bool.{false}
 use Rattle.std.proofs.Math.Decide.{dec_lt}
 use Rattle.std.proofs.Math.Dec.{eqb}
@@ -15,14 +15,13 @@ use Rattle.calls.specs.Calling.{wrote, answer_said, closing_said, answer_to, Rec
 use Rattle.calls.specs.Keeping.{short_buffer, bad_state, judged_line, answer_written, closing_short_buffer, closing_bad_state, closing_unlisted, closing_line_of, closing_written}
 use Rattle.calls.specs.Blocks.{Block, blocked, took, block_left}
 use Rattle.calls.specs.Taking.{block_short, block_bad, block_judged, ran, written_within}
-use Rattle.calls.specs.declared.Answered.{Answered}
+use Rattle.calls.specs.declared.CallError.{CallError}
+use Rattle.calls.specs.declared.ClosingError.{ClosingError}
 use Rattle.calls.specs.declared.Taken.{Taken}
-use Rattle.calls.specs.declared.Closed.{Closed}
-use Rattle.meo.specs.Messages.{sent_said, write_checks, write_said, read_checks, found_said, read_said}
+use Rattle.meo.specs.Messages.{Heard, sent_said, write_checks, write_said, read_checks, read_number, found_said, read_said}
 use Rattle.meo.proofs.Orders.{read_order}
 use Rattle.meo.specs.declared.NewOrder.{NewOrder}
-use Rattle.meo.specs.declared.Found.{Found}
-use Rattle.meo.specs.declared.Sent.{Sent}
+use Rattle.meo.specs.declared.ReadError.{ReadError}
 use Rattle.host.specs.Exporting.{told, heard, block_said, taken_told, state_said, words_for, order_words, read_refusals, read_told, read_left}
 
 -- a refusal is heard
@@ -63,13 +62,12 @@ pub record_heard : (m l b : List ℕ) → heard (told (recorded m l b).said) ≡
 record_heard m l b = record_said m l b (λ x. heard (told x) ≡ x) refused_heard (λ cs h. refl)
 
 -- its answer told, and what it leaves
-module _ (m l b : List ℕ) {m' b' : List ℕ} {x : Answered} where
-  pub record_told : (y : Answered) → x ≡ y → record_left (answer_said x) m' b' ≡ recorded m l b →
-      (told (answer_said y) ≡ told (recorded m l b).said) × ((m' ≡ (recorded m l b).memory) × (b' ≡ (recorded m l b).buffer))
-  record_told y q p = (ap (λ z. told (answer_said z)) (sym q) ∙ ap (λ (r : Recorded). told r.said) p, (ap (λ (r : Recorded). r.memory) p, ap (λ (r : Recorded). r.buffer) p))
+module _ (m l b : List ℕ) {m' b' : List ℕ} (x : Result ℕ CallError) (p : record_left (answer_said x) m' b' ≡ recorded m l b) where
+  pub record_told : (told (answer_said x) ≡ told (recorded m l b).said) × ((m' ≡ (recorded m l b).memory) × (b' ≡ (recorded m l b).buffer))
+  record_told = (ap (λ (r : Recorded). told r.said) p, (ap (λ (r : Recorded). r.memory) p, ap (λ (r : Recorded). r.buffer) p))
 
-  pub record_fits : (n : ℕ) → x ≡ Answered.Line n → record_left (answer_said x) m' b' ≡ recorded m l b → n < 2 ^ 63
-  record_fits n q p = let e : n ≡ (recorded m l b).said.bytes = ap (λ z. (answer_said z).bytes) (sym q) ∙ ap (λ (r : Recorded). r.said.bytes) p in omega (arith, e, record_said m l b (λ x. x.bytes ≤ 32) (λ n. omega arith) (λ cs h. h))
+  pub record_fits : (answer_said x).bytes < 2 ^ 63
+  record_fits = let e : (answer_said x).bytes ≡ (recorded m l b).said.bytes = ap (λ (r : Recorded). r.said.bytes) p in omega (arith, e, record_said m l b (λ x. x.bytes ≤ 32) (λ n. omega arith) (λ cs h. h))
 
 -- ── a block ──
 -- THEOREM. The number tells what a block is refused by, or how much it wrote
@@ -82,16 +80,13 @@ block_heard m l b = elim (dec_lt (length b) 32) [
 ]
 
 -- its answer told, what it leaves, and that it fits
-module _ (m l b : List ℕ) {m' b' : List ℕ} {x : Taken} (y : Taken) (q : x ≡ y) (p : block_left (took x) m' b' ≡ blocked m l b) where
-  same_block : block_left (took y) m' b' ≡ blocked m l b
-  same_block = ap (λ z. block_left (took z) m' b') (sym q) ∙ p
-
+module _ (m l b : List ℕ) {m' b' : List ℕ} (x : Result Taken CallError) (p : block_left (took x) m' b' ≡ blocked m l b) where
   pub block_told : (ws : List ℕ) → let t = blocked m l b in
-      (told (block_said (block_left (took y) m' b')) ≡ told (block_said t)) × ((m' ≡ t.memory) × ((b' ≡ t.buffer) × (taken_told (block_left (took y) m' b') ws ≡ taken_told t ws)))
-  block_told ws = (ap (λ (t : Block). told (block_said t)) same_block, (ap (λ (t : Block). t.memory) same_block, (ap (λ (t : Block). t.buffer) same_block, ap (λ (t : Block). taken_told t ws) same_block)))
+      (told (block_said (block_left (took x) m' b')) ≡ told (block_said t)) × ((m' ≡ t.memory) × ((b' ≡ t.buffer) × (taken_told (block_left (took x) m' b') ws ≡ taken_told t ws)))
+  block_told ws = (ap (λ (t : Block). told (block_said t)) p, (ap (λ (t : Block). t.memory) p, (ap (λ (t : Block). t.buffer) p, ap (λ (t : Block). taken_told t ws) p)))
 
-  pub block_fits : (took y).written ≤ length b
-  block_fits = subst (λ (t : Block). t.written ≤ length b) (sym same_block) (written_within m l b)
+  pub block_fits : (took x).written ≤ length b
+  block_fits = subst (λ (t : Block). t.written ≤ length b) (sym p) (written_within m l b)
 
 -- ── a closing line ──
 -- a refusal, or a line of at most 96 bytes
@@ -112,18 +107,18 @@ closing_said_by m i b P refused line = elim (dec_lt (length b) 96) [
 pub closing_heard : (m : List ℕ) (i : ℕ) (b : List ℕ) → heard (told (closed m i b).said) ≡ (closed m i b).said
 closing_heard m i b = closing_said_by m i b (λ x. heard (told x) ≡ x) refused_heard (λ cs h. refl)
 
-module _ (m : List ℕ) (i : ℕ) (b : List ℕ) {b' : List ℕ} {x : Closed} where
-  pub closing_told : (y : Closed) → x ≡ y → closing_left (closing_said x) b' ≡ closed m i b → (told (closing_said y) ≡ told (closed m i b).said) × (b' ≡ (closed m i b).buffer)
-  closing_told y q p = (ap (λ z. told (closing_said z)) (sym q) ∙ ap (λ (r : Closing). told r.said) p, ap (λ (r : Closing). r.buffer) p)
+module _ (m : List ℕ) (i : ℕ) (b : List ℕ) {b' : List ℕ} (x : Result ℕ ClosingError) (p : closing_left (closing_said x) b' ≡ closed m i b) where
+  pub closing_told : (told (closing_said x) ≡ told (closed m i b).said) × (b' ≡ (closed m i b).buffer)
+  closing_told = (ap (λ (r : Closing). told r.said) p, ap (λ (r : Closing). r.buffer) p)
 
-  pub closing_fits : (n : ℕ) → x ≡ Closed.Line n → closing_left (closing_said x) b' ≡ closed m i b → n < 2 ^ 63
-  closing_fits n q p = let e : n ≡ (closed m i b).said.bytes = ap (λ z. (closing_said z).bytes) (sym q) ∙ ap (λ (r : Closing). r.said.bytes) p in omega (arith, e, closing_said_by m i b (λ x. x.bytes ≤ 96) (λ n. omega arith) (λ cs h. h))
+  pub closing_fits : (closing_said x).bytes < 2 ^ 63
+  closing_fits = let e : (closing_said x).bytes ≡ (closed m i b).said.bytes = ap (λ (r : Closing). r.said.bytes) p in omega (arith, e, closing_said_by m i b (λ x. x.bytes ≤ 96) (λ n. omega arith) (λ cs h. h))
 
 -- ── an order message ──
 -- THEOREM. The number tells all that the calls say
 pub order_write_heard : (l : List ℕ) (n : NewOrder) (h b : List ℕ) → heard (told (write_said l n h b)) ≡ write_said l n h b
 unfolding write_said
-order_write_heard l n h b = let k = first (write_checks l n h b) in split (λ (x : Said). heard (told x) ≡ x) (eqb k 0) (sent_said Sent.Message) (refuses k) (λ e. refl) (λ e. refused_heard k)
+order_write_heard l n h b = let k = first (write_checks l n h b) in split (λ (x : Said). heard (told x) ≡ x) (eqb k 0) (sent_said (Ok tt)) (refuses k) (λ e. refl) (λ e. refused_heard k)
 
 pub order_read_heard : (m b : List ℕ) → heard (told (read_told m b)) ≡ read_told m b
 unfolding read_told
@@ -134,12 +129,13 @@ unfolding read_said
 refusal m b = first_then (read_checks m) (ltb (length b) 8) 43 refl
 
 module _ (m b : List ℕ) where
-  pub order_refused : (k : ℕ) → (read_said m).number ≡ suc k → (negsuc k ≡ told (read_told m b)) × (b ≡ read_left m b)
+  pub order_refused : (why : ReadError) → read_said m ≡ found_said (Err why) → (told (refuses (read_number why)) ≡ told (read_told m b)) × (b ≡ read_left m b)
   unfolding read_told read_left
-  order_refused k e = let n : eqb (suc k) 0 ≡ false = ne_eqb (suc k) 0 (λ q. omega arith) in (rw (refusal m b, e, n, n, n), rw (refusal m b, e, n, n))
+  order_refused ReadError.BadMessage q = let e = ap (λ (x : Heard). x.number) q in (rw (refusal m b, e), rw (refusal m b, e))
+  order_refused ReadError.BadOrder q = let e = ap (λ (x : Heard). x.number) q in (rw (refusal m b, e), rw (refusal m b, e))
 
-  module _ (n : NewOrder) (e : read_said m ≡ found_said (Found.Order n)) where
-    pub order_short : length b < 8 → (negsuc 42 ≡ told (read_told m b)) × (b ≡ read_left m b)
+  module _ (n : NewOrder) (e : read_said m ≡ found_said (Ok n)) where
+    pub order_short : length b < 8 → (told (refuses 43) ≡ told (read_told m b)) × (b ≡ read_left m b)
     unfolding read_told read_left
     order_short h = let z = (read_order m n e).0 in (rw (refusal m b, z, lt-ltb (length b) 8 h), rw (refusal m b, z, lt-ltb (length b) 8 h))
 

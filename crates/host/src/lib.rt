@@ -1,6 +1,7 @@
 // The public calls for hosts in C and Rust: numbers and slices alone. include/ticketmoss.h declares them.
 //
 // Each is the call below it, and says its answer as one number with its sign: the bytes or words that were written, or minus the documents' number.
+// kept: the C interface: an answer is one number with its sign, and each call has a name and a function of its own
 #![tactic(auto)]
 
 ghost use Rattle.std.specs.Prelude.{◌≡◌, ◌≤◌, length};
@@ -13,15 +14,23 @@ ghost use Rattle.codec.specs.Readings.{reading};
 ghost use Rattle.meo.specs.Messages.{order_of, write_said, write_left};
 ghost use Rattle.host.specs.Exporting.{told, block_said, taken_told, state_said, words_for, order_words, read_told, read_left};
 
-use calls::{Answered, Closed, Taken};
-use meo::{Found, NewOrder, Sent};
-use store::Made;
+use calls::CallError;
+use meo::{NewOrder, SendError};
 
 // The words of an N that is read.
 const ORDER: usize = 8;
 
+// A refusal as one number with its sign.
+fn refused(number: u64) -> i64
+    requires { number ≤ 43 }
+    ensures { result ≡ told (refuses number) }
+{
+    -(number as i64)
+}
+
 // How many words a room of so many places needs; 0 where no memory has so many.
 #[unsafe(no_mangle)]
+#[tactic(auto, unfolding(crate::specs::Exporting::words_for))]
 pub extern "C" fn ticketmoss_words(places: usize) -> usize
     ensures { result ≡ words_for places }
 {
@@ -46,20 +55,21 @@ pub extern "C" fn ticketmoss_fresh(mem: &mut [u64]) -> i64
     ensures memory { mem.new ≡ made_words mem.old }
 {
     match store::make_fresh(mem) {
-        Made::Done => 0,
-        Made::TooShort => -23,
+        Ok(()) => 0,
+        Err(why) => refused(u64::from(why)),
     }
 }
 
 // Whether the words are a state that a record can be judged on: 0, or -22.
 #[unsafe(no_mangle)]
+#[tactic(auto, using(crate::proofs::Telling::state_told))]
 pub extern "C" fn ticketmoss_state(mem: &[u64]) -> i64
     ensures { result ≡ told (state_said mem.now) }
 {
     if state::state_ok(mem) {
         return 0;
     }
-    -22
+    refused(u64::from(CallError::BadState))
 }
 
 // Judges a record: the bytes of its answer line, or -21 or -22.
@@ -70,9 +80,8 @@ pub extern "C" fn ticketmoss_record(mem: &mut [u64], line: &[u8], to: &mut [u8])
     ensures buffer { to.new ≡ (recorded mem.old line.now to.old).buffer }
 {
     match calls::record(mem, line, to) {
-        Answered::Line(count) => count as i64,
-        Answered::ShortBuffer => -21,
-        Answered::BadState => -22,
+        Ok(written) => written as i64,
+        Err(why) => refused(u64::from(why)),
     }
 }
 
@@ -90,16 +99,11 @@ pub extern "C" fn ticketmoss_block(
     ensures taken { taken.new ≡ taken_told (blocked mem.old text.now to.old) taken.old }
 {
     match calls::block(mem, text, to) {
-        Taken::Lines {
-            count,
-            bytes,
-            written,
-        } => {
-            *taken = [count as u64, bytes as u64];
-            written as i64
+        Ok(lines) => {
+            *taken = [lines.count as u64, lines.bytes as u64];
+            lines.written as i64
         }
-        Taken::ShortBuffer => -21,
-        Taken::BadState => -22,
+        Err(why) => refused(u64::from(why)),
     }
 }
 
@@ -110,10 +114,8 @@ pub extern "C" fn ticketmoss_closing(mem: &[u64], place: usize, to: &mut [u8]) -
     ensures buffer { to.new ≡ (closed mem.now place to.old).buffer }
 {
     match calls::closing(mem, place, to) {
-        Closed::Line(count) => count as i64,
-        Closed::ShortBuffer => -21,
-        Closed::BadState => -22,
-        Closed::Unlisted => -5,
+        Ok(written) => written as i64,
+        Err(why) => refused(u64::from(why)),
     }
 }
 
@@ -125,10 +127,8 @@ pub extern "C" fn ticketmoss_order_write(line: &[u8], house: &[u8], to: &mut [u8
 {
     let n = meo::order_of(codec::read(line));
     match meo::write(line, n, house, to) {
-        Sent::Message => 131,
-        Sent::BadMessage => -41,
-        Sent::BadOrder => -42,
-        Sent::ShortOutput => -43,
+        Ok(()) => 131,
+        Err(why) => refused(u64::from(why)),
     }
 }
 
@@ -144,7 +144,7 @@ fn put_order(words: &mut [u64], n: NewOrder)
         n.mpid.from as u64,
         n.mpid.to as u64,
         n.symbol,
-        n.side as u64,
+        u64::from(n.side),
         n.size,
         n.price,
     ];
@@ -158,14 +158,13 @@ pub extern "C" fn ticketmoss_order_read(message: &[u8], words: &mut [u64]) -> i6
     ensures words { words.new ≡ read_left message.now words.old }
 {
     match meo::read(message) {
-        Found::Order(n) => {
+        Ok(n) => {
             if words.len() < ORDER {
-                return -43;
+                return refused(u64::from(SendError::ShortOutput));
             }
             put_order(words, n);
             8
         }
-        Found::BadMessage => -41,
-        Found::BadOrder => -42,
+        Err(why) => refused(u64::from(why)),
     }
 }

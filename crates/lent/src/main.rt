@@ -6,11 +6,11 @@
 // for a fresh state.
 #![tactic(auto)]
 
-ghost use Rattle.std.specs.Prelude.{◌≡◌, length};
+ghost use Rattle.std.specs.Prelude.{◌≤◌};
 
-use calls::{Answered, Closed};
+use fields::Place;
 use std::io;
-use store::Made;
+use store::MakeError;
 
 // A memory with room for one request.
 const WORDS: usize = books::LEAST_WORDS + books::PLACE_WORDS;
@@ -22,181 +22,92 @@ const DOT: u8 = b'.';
 
 const GARBAGE: u64 = u64::MAX;
 
-// What a call answered: a line of so many bytes, or a number.
-#[derive(Clone, Copy)]
-enum Said {
-    Line(usize),
-    Number(u64),
+fn kept_or_changed(is_kept: bool) -> &'static str {
+    if is_kept { "kept" } else { "changed" }
 }
 
-fn say(rt: &impl Print, text: &[u8]) -> io::Result<()> {
-    rt.write_all(text)
-}
-
-// A memory of which every word is the one named.
-fn filled(word: u64) -> [u64; WORDS]
-    ensures { 1686 ≡ length result }
-{
-    [word; WORDS]
-}
-
-// Whether every byte from a place on is as it was before.
-fn bytes_kept(buffer: &[u8; BYTES], from: usize) -> bool {
-    let mut i = from;
-    while i < BYTES {
-        if buffer[i] != DOT {
-            return false;
-        }
-        i += 1;
-    }
-    true
-}
-
-fn words_kept(before: &[u64; WORDS], after: &[u64; WORDS]) -> bool {
-    let mut i = 0;
-    while i < WORDS {
-        if before[i] != after[i] {
-            return false;
-        }
-        i += 1;
-    }
-    true
-}
-
-fn say_number(rt: &impl Print, number: usize) -> io::Result<()> {
-    print!(rt; "{number}")
-}
-
-// Says what a call was lent.
-fn say_lent(rt: &impl Print, words: usize, room: usize) -> io::Result<()> {
-    say(rt, b", ")?;
-    say_number(rt, words)?;
-    say(rt, b" words, ")?;
-    say_number(rt, room)?;
-    say(rt, b" bytes: ")
-}
-
-fn say_kept(rt: &impl Print, kept: bool) -> io::Result<()> {
-    if kept {
-        say(rt, b"kept, ")
-    } else {
-        say(rt, b"changed, ")
-    }
-}
-
-// Says the answer: its line, as far as the buffer goes, or its number.
-fn say_answer(rt: &impl Print, said: Said, buffer: &[u8; BYTES]) -> io::Result<()> {
-    match said {
-        Said::Line(to) => say(rt, fields::part(buffer, fields::Place { from: 0, to })),
-        Said::Number(number) => {
-            print!(rt; "{number}")?;
-            say(rt, b"\n")
-        }
-    }
-}
-
-// Where what a call wrote to its buffer ends.
-fn end_of(said: Said) -> usize {
-    match said {
-        Said::Line(end) => end,
-        Said::Number(_) => 0,
-    }
-}
-
-fn report(
+// Says whether every byte of the buffer from a place on, and every word, is as it was before.
+fn say_kept(
     rt: &impl Print,
-    said: Said,
+    buffer: &[u8; BYTES],
+    end: usize,
+    before: &[u64; WORDS],
+    after: &[u64; WORDS],
+) -> io::Result<()> {
+    let bytes = kept_or_changed(buffer.iter().skip(end).all(|b| *b == DOT));
+    let words = kept_or_changed(before == after);
+    print!(rt; "bytes {bytes}, words {words}, ")
+}
+
+// Says the answer: its line, as far as the buffer goes, or the number that writes none.
+fn say_answer(
+    rt: &impl Print,
+    said: Result<usize, u64>,
     buffer: &[u8; BYTES],
     before: &[u64; WORDS],
     after: &[u64; WORDS],
 ) -> io::Result<()> {
-    say(rt, b"bytes ")?;
-    say_kept(rt, bytes_kept(buffer, end_of(said)))?;
-    say(rt, b"words ")?;
-    say_kept(rt, words_kept(before, after))?;
-    say_answer(rt, said, buffer)
+    match said {
+        Ok(to) => {
+            say_kept(rt, buffer, to, before, after)?;
+            rt.write_all(fields::part(buffer, Place { from: 0, to }))
+        }
+        Err(number) => {
+            say_kept(rt, buffer, 0, before, after)?;
+            println!(rt; "{number}")
+        }
+    }
 }
 
 // Has a record judged over the first so many words, with so many bytes for its answer.
-fn record_within(mem: &mut [u64], words: usize, line: &[u8], to: &mut [u8], room: usize) -> Said {
-    if words > mem.len() {
-        return Said::Number(0);
-    }
-    if room > to.len() {
-        return Said::Number(0);
-    }
-    match calls::record(&mut mem[0..words], line, &mut to[0..room]) {
-        Answered::Line(end) => Said::Line(end),
-        Answered::ShortBuffer => Said::Number(21),
-        Answered::BadState => Said::Number(22),
-    }
-}
-
-// Asks for a closing line over the first so many words, with so many bytes for it.
-fn closing_within(mem: &[u64], words: usize, place: usize, to: &mut [u8], room: usize) -> Said {
-    if words > mem.len() {
-        return Said::Number(0);
-    }
-    if room > to.len() {
-        return Said::Number(0);
-    }
-    match calls::closing(&mem[0..words], place, &mut to[0..room]) {
-        Closed::Line(end) => Said::Line(end),
-        Closed::ShortBuffer => Said::Number(21),
-        Closed::BadState => Said::Number(22),
-        Closed::Unlisted => Said::Number(5),
-    }
-}
-
-// Has a fresh state made in the first so many words.
-fn fresh_within(mem: &mut [u64], words: usize) -> Said {
-    if words > mem.len() {
-        return Said::Number(0);
-    }
-    match store::make_fresh(&mut mem[0..words]) {
-        Made::Done => Said::Number(0),
-        Made::TooShort => Said::Number(23),
-    }
-}
-
 fn try_record(
     rt: &impl Print,
     mem: &mut [u64; WORDS],
     words: usize,
     room: usize,
     line: &[u8],
-) -> io::Result<()> {
+) -> io::Result<()>
+    requires words_in_bounds { words ≤ 1686 }
+    requires room_in_bounds { room ≤ 128 }
+{
     let before = *mem;
     let mut buffer = [DOT; BYTES];
-    let said = record_within(mem, words, line, &mut buffer, room);
-    say(rt, b"record")?;
-    say_lent(rt, words, room)?;
-    report(rt, said, &buffer, &before, mem)
+    let said = calls::record(&mut mem[..words], line, &mut buffer[..room]).map_err(u64::from);
+    print!(rt; "record, {words} words, {room} bytes: ")?;
+    say_answer(rt, said, &buffer, &before, mem)
 }
 
+// Asks for a closing line over the first so many words, with so many bytes for it.
 fn try_closing(
     rt: &impl Print,
     mem: &[u64; WORDS],
     words: usize,
     room: usize,
     place: usize,
-) -> io::Result<()> {
+) -> io::Result<()>
+    requires words_in_bounds { words ≤ 1686 }
+    requires room_in_bounds { room ≤ 128 }
+{
     let before = *mem;
     let mut buffer = [DOT; BYTES];
-    let said = closing_within(mem, words, place, &mut buffer, room);
-    say(rt, b"closing ")?;
-    say_number(rt, place)?;
-    say_lent(rt, words, room)?;
-    report(rt, said, &buffer, &before, mem)
+    let said = calls::closing(&mem[..words], place, &mut buffer[..room]).map_err(u64::from);
+    print!(rt; "closing {place}, {words} words, {room} bytes: ")?;
+    say_answer(rt, said, &buffer, &before, mem)
 }
 
-fn try_fresh(rt: &impl Print, words: usize) -> io::Result<()> {
-    let mut mem = filled(GARBAGE);
+// Has a fresh state made in the first so many words.
+fn try_fresh(rt: &impl Print, words: usize) -> io::Result<()>
+    requires { words ≤ 1686 }
+{
+    let mut mem = [GARBAGE; WORDS];
     let before = mem;
-    let said = fresh_within(&mut mem, words);
-    say(rt, b"fresh")?;
-    say_lent(rt, words, 0)?;
-    report(rt, said, &[DOT; BYTES], &before, &mem)
+    let number = match store::make_fresh(&mut mem[..words]) {
+        Ok(()) => 0,
+        Err(MakeError::TooShort) => 23,
+    };
+    print!(rt; "fresh, {words} words, 0 bytes: ")?;
+    say_kept(rt, &[DOT; BYTES], 0, &before, &mem)?;
+    println!(rt; "{number}")
 }
 
 // Making a fresh state, in memories too short for groups and symbols (23), and in one that is just long enough.
@@ -208,8 +119,8 @@ fn try_fresh_states(rt: &impl Print) -> io::Result<()> {
 
 // A memory that is no state (22), where a buffer that is too short is found first (21).
 fn try_garbage(rt: &impl Print) -> io::Result<()> {
-    say(rt, b"garbage\n")?;
-    let mut mem = filled(GARBAGE);
+    println!(rt; "garbage")?;
+    let mut mem = [GARBAGE; WORDS];
     try_record(rt, &mut mem, WORDS, 31, b"O\n")?;
     try_record(rt, &mut mem, WORDS, 32, b"O\n")?;
     try_closing(rt, &mem, WORDS, 95, 0)?;
@@ -218,9 +129,9 @@ fn try_garbage(rt: &impl Print) -> io::Result<()> {
 
 // Memories that are too short for groups and symbols (22).
 fn try_short_memories(rt: &impl Print) -> io::Result<()> {
-    say(rt, b"too short for groups and symbols\n")?;
+    println!(rt; "too short for groups and symbols")?;
     let words = books::LEAST_WORDS - 1;
-    let mut mem = filled(0);
+    let mut mem = [0; WORDS];
     try_record(rt, &mut mem, 0, 32, b"O\n")?;
     try_record(rt, &mut mem, words, 32, b"O\n")?;
     try_closing(rt, &mem, words, 96, 0)
@@ -228,7 +139,7 @@ fn try_short_memories(rt: &impl Print) -> io::Result<()> {
 
 // A fresh state: a place that no group has yet (5), buffers that are too short for an answer line (21), and one that is just long enough.
 fn try_buffers(rt: &impl Print, mem: &mut [u64; WORDS]) -> io::Result<()> {
-    say(rt, b"a fresh state\n")?;
+    println!(rt; "a fresh state")?;
     let group = b"G\tABCD\t100\t100\t100\t100\t100\t100\t100\tN\n";
     try_closing(rt, mem, WORDS, 96, 0)?;
     try_record(rt, mem, WORDS, 0, group)?;
@@ -238,7 +149,7 @@ fn try_buffers(rt: &impl Print, mem: &mut [u64; WORDS]) -> io::Result<()> {
 
 // A buffer that is too short for a closing line (21), one that is just long enough and a longer one; and places that no group has (5).
 fn try_closings(rt: &impl Print, mem: &[u64; WORDS]) -> io::Result<()> {
-    say(rt, b"one group\n")?;
+    println!(rt; "one group")?;
     try_closing(rt, mem, WORDS, 95, 0)?;
     try_closing(rt, mem, WORDS, 96, 0)?;
     try_closing(rt, mem, WORDS, BYTES, 0)?;
@@ -249,14 +160,8 @@ fn try_closings(rt: &impl Print, mem: &[u64; WORDS]) -> io::Result<()> {
 
 // Judges the lines of a text, each with 32 bytes for its answer.
 fn try_lines(rt: &impl Print, mem: &mut [u64; WORDS], text: &[u8]) -> io::Result<()> {
-    let mut at = 0;
-    loop {
-        let line = lines::line_at(text, at);
-        if line.len() == 0 {
-            break;
-        }
+    for line in text.split_inclusive(|b| *b == b'\n') {
         try_record(rt, mem, WORDS, 32, line)?;
-        at += line.len();
     }
     Ok(())
 }
@@ -275,7 +180,7 @@ fn try_setup(rt: &impl Print, mem: &mut [u64; WORDS]) -> io::Result<()> {
 
 // After O: a symbol (2), a request of no group (5), one that is repeated, one that differs (6) and one without a place (7) have no effect.
 fn try_requests(rt: &impl Print, mem: &mut [u64; WORDS]) -> io::Result<()> {
-    say(rt, b"opened\n")?;
+    println!(rt; "opened")?;
     try_lines(rt, mem, b"S\t8\nN\tT1\tWXYZ\t7\tB\t1\t100\n")?;
     try_lines(
         rt,
@@ -299,8 +204,8 @@ fn main(rt: HostRuntime) -> io::Result<()> {
     try_fresh_states(&rt)?;
     try_garbage(&rt)?;
     try_short_memories(&rt)?;
-    let mut mem = filled(GARBAGE);
-    store::make_fresh(&mut mem);
+    let mut mem = [GARBAGE; WORDS];
+    let _ = store::make_fresh(&mut mem);
     try_buffers(&rt, &mut mem)?;
     try_closings(&rt, &mem)?;
     try_setup(&rt, &mut mem)?;

@@ -12,13 +12,13 @@ use Rattle.calls.proofs.judge_lines.Given as goal
 
 abbrev pub invariant-loop-to : goal.invariant-loop-to
 invariant-loop-to l = record {
-  end_within : l.end ≤ length l.to;
-  at_within : l.at ≤ length l.text;
-  fewer : l.count ≤ l.at;
+  end_within : l.written ≤ length l.to;
+  at_within : l.bytes ≤ length l.text;
+  fewer : l.count ≤ l.bytes;
   sound : state_ok l.mem ≡ true;
   indexed : Indexed l.mem l.heads l.links;
-  taken : one_by_one l.initial.mem (whole [] l.text) l.initial.to ≡ so_far l.text l.count l.at l.end l.mem l.to;
+  taken : one_by_one l.initial.mem (whole [] l.text) l.initial.to ≡ so_far l.text l.count l.bytes l.written l.mem l.to;
 }
 
 abbrev pub decreases-loop-to : goal.decreases-loop-to
-decreases-loop-to l = length l.text - l.at
+decreases-loop-to l = length l.text - l.bytes

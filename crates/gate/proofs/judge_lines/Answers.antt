@@ -5,18 +5,18 @@ use Rattle.gate.specs.Passing.{passed, none_left}
 use Rattle.gate.proofs.judge_lines.Goals as goal
 
 pub overflow_add-at : goal.overflow_add-at
-overflow_add-at g c = let w = passed _ c.loop-bytes.mem c.loop-bytes.answers c.in-Lines.ensures c.args.text.now c.loop-bytes.at c.loop-bytes.invariant.0 refl in omega arith
+overflow_add-at g c = let w = passed _ c.loop-taken.mem c.loop-taken.answers c.in-Ok.ensures c.args.text.now c.loop-taken.at c.loop-taken.invariant.0 refl in omega arith
 
 pub overflow_sub-answers : goal.overflow_sub-answers
-overflow_sub-answers g c = let w = passed _ c.loop-bytes.mem c.loop-bytes.answers c.in-Lines.ensures c.args.text.now c.loop-bytes.at c.loop-bytes.invariant.0 refl in omega arith
+overflow_sub-answers g c = let w = passed _ c.loop-taken.mem c.loop-taken.answers c.in-Ok.ensures c.args.text.now c.loop-taken.at c.loop-taken.invariant.0 refl in omega arith
 
-pub loop-bytes-smaller : goal.loop-bytes-smaller
-loop-bytes-smaller g c = let w = passed _ c.loop-bytes.mem c.loop-bytes.answers c.in-Lines.ensures c.args.text.now c.loop-bytes.at c.loop-bytes.invariant.0 refl in omega (arith, w.within, w.some_done (omega (arith, c.block.auto.to)))
+pub loop-taken-smaller : goal.loop-taken-smaller
+loop-taken-smaller g c = let w = passed _ c.loop-taken.mem c.loop-taken.answers c.in-Ok.ensures c.args.text.now c.loop-taken.at c.loop-taken.invariant.0 refl in omega (arith, w.within, w.some_done (omega (arith, c.block.auto.to)))
 
-pub loop-bytes-preserved : goal.loop-bytes-preserved
-loop-bytes-preserved g c = let w = passed _ c.loop-bytes.mem c.loop-bytes.answers c.in-Lines.ensures c.args.text.now c.loop-bytes.at c.loop-bytes.invariant.0 refl in (w.within, c.loop-bytes.invariant.1 ∙ w.held, c.loop-bytes.invariant.2 ∙ w.calls)
+pub loop-taken-preserved : goal.loop-taken-preserved
+loop-taken-preserved g c = let w = passed _ c.loop-taken.mem c.loop-taken.answers c.in-Ok.ensures c.args.text.now c.loop-taken.at c.loop-taken.invariant.0 refl in (w.within, c.loop-taken.invariant.1 ∙ w.held, c.loop-taken.invariant.2 ∙ w.calls)
 
-pub returns : goal.returns
-returns g c = let w = passed _ c.loop-bytes.mem c.loop-bytes.answers c.in-Lines.ensures c.args.text.now c.loop-bytes.at c.loop-bytes.invariant.0 refl in
+pub returns-then-answers-taken-ge-ANSWER : goal.returns-then-answers-taken-ge-ANSWER
+returns-then-answers-taken-ge-ANSWER g c = let w = passed _ c.loop-taken.mem c.loop-taken.answers c.in-Ok.ensures c.args.text.now c.loop-taken.at c.loop-taken.invariant.0 refl in
     let none = w.all_done (omega (arith, c.block.auto.to)) in
-    (w.within, c.loop-bytes.invariant.1 ∙ w.held ∙ none_ends _ none, sym (c.loop-bytes.invariant.2 ∙ w.calls ∙ none_left _ _ none))
+    (w.within, c.loop-taken.invariant.1 ∙ w.held ∙ none_ends _ none, sym (c.loop-taken.invariant.2 ∙ w.calls ∙ none_left _ _ none))

@@ -3,11 +3,12 @@ use mathlib.Core.Path.{◌∙◌}
 use native.Mathlib.Omega.{arith}
 use mir.Syntax.{w64}
 use mir.ValLaws.{to_z_pos}
+use Rattle.std.specs.Prelude.{Ok}
 use Rattle.host.proofs.Telling.{closing_told, closing_fits}
 use Rattle.host.proofs.ticketmoss_closing.Goals as goal
 
 pub overflow_cast-result : goal.overflow_cast-result
-overflow_cast-result c = let a = c.args in omega (arith, closing_fits a.mem.now a.place a.to.now _ c.in-Line.is c.closing.ensures)
+overflow_cast-result c = let a = c.args in omega (arith, closing_fits a.mem.now a.place a.to.now (Ok c.in-Ok.written) c.in-Ok.ensures)
 
-pub returns-in-Line-clause-answer : goal.returns-in-Line-clause-answer
-returns-in-Line-clause-answer c = let a = c.args in let e = c.closing.ensures in to_z_pos w64 _ (closing_fits a.mem.now a.place a.to.now _ c.in-Line.is e) ∙ (closing_told a.mem.now a.place a.to.now _ c.in-Line.is e).0
+pub returns-in-Ok-clause-answer : goal.returns-in-Ok-clause-answer
+returns-in-Ok-clause-answer c = let a = c.args in let e = c.in-Ok.ensures in to_z_pos w64 _ (closing_fits a.mem.now a.place a.to.now (Ok c.in-Ok.written) e) ∙ (closing_told a.mem.now a.place a.to.now (Ok c.in-Ok.written) e).0
