@@ -1,27 +1,22 @@
 -- What is laid over a house message is the message.
-use Rattle.std.specs.Prelude.{◌≡◌, refl, true, List, [], ◌∷◌, ◌++◌, ℕ, ◌≤◌, length, take, drop, replicate}
-use Rattle.std.proofs.Common.{ap, ◌∙◌, append_assoc, arith, length-append, length-drop, take_all, le-leb}
+use Rattle.std.specs.Prelude.{◌≡◌, refl, true, List, [], ◌∷◌, ◌++◌, ℕ, ◌≤◌, length, drop, replicate}
+use Rattle.std.proofs.Common.{◌∙◌, append_assoc, arith, length-append, length-drop}
 use Rattle.fields.specs.Parts.{stretch}
-use Rattle.fields.specs.declared.Written.{Written}
-use Rattle.fields.specs.declared.Written.TheVariants.{Bytes}
-use Rattle.fields.specs.Out.{Left, left, out, puts, handed, begun}
+use Rattle.fields.specs.Out.{out, puts, begun}
 use Rattle.meo.specs.Table.{lay}
 use Rattle.meo.specs.Messages.{order_said, in_form, is_message, message}
 use Rattle.meo.specs.Parts.{stretch_before, drop_before, next, begins_next}
 use Rattle.meo.specs.Laying.{message_long, message_length, own, own_length, in_parts}
 use Rattle.meo.specs.declared.NewOrder.{NewOrder}
 
--- from the house message handed over, what each of the three puts leaves
+-- from the house message copied in, what each of the three puts leaves
 pub message_laid : (l : List ℕ) (n : NewOrder) (h b : List ℕ) → is_message h ≡ true → in_form l n ≡ true → 131 ≤ length b
-    → (d e f g : List ℕ) (w : Written) (i j k : ℕ) → left d w ≡ handed h 131 b → out e i ≡ puts (out d 10) (lay h 10 (own (order_said l n)))
+    → (d e f g : List ℕ) (i j k : ℕ) → d ≡ h ++ drop 131 b → out e i ≡ puts (out d 10) (lay h 10 (own (order_said l n)))
     → out f j ≡ puts (out e 87) (replicate 20 0) → out g k ≡ puts (out f 111) (32 ∷ []) → g ≡ begun (message h (order_said l n)) b
-unfolding handed
-message_laid l n h b t ok long d e f g w i j k p q r s =
+message_laid l n h b t ok long d e f g i j k d_is q r s =
     let o = order_said l n in
     let hl = message_long h t in
     let al = own_length l n h ok hl in
-    let handed_is : handed h 131 b ≡ left (take 131 h ++ drop 131 b) (Bytes 131) = rw (le-leb 131 (length h) (omega arith), le-leb 131 (length b) long) in
-    let d_is : d ≡ h ++ drop 131 b = ap (λ (x : Left). x.buffer) (p ∙ handed_is) ∙ rw (take_all 131 h (omega arith)) in
     let dl : length d ≡ length b = rw (d_is, length-append, length-drop) (omega arith) in
     let A = lay h 10 (own o) in
     let Z : List ℕ = replicate 20 0 in

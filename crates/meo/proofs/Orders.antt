@@ -1,5 +1,5 @@
 -- Document 02, order 2, over the two calls: an N that is written and read back, a message that is read and written again, and whose line is written.
-use Rattle.std.specs.Prelude.{◌≡◌, refl, true, false, cond, ◌↔◌, List, ℕ, ◌≤◌, length, take, drop, get_or, eqb}
+use Rattle.std.specs.Prelude.{◌≡◌, refl, true, false, cond, ◌↔◌, List, ℕ, ◌≤◌, length, take, drop, get_or, eqb, Ok}
 use Rattle.std.proofs.Common.{sym, ap, ◌∙◌, subst, arith, take_at, ltb-false, le-ltb, eqb-true}
 use Rattle.std.proofs.Math.Option.{Option, none, some}
 use Prim.Native.Char.{code}
@@ -23,8 +23,6 @@ use Rattle.meo.specs.Messages.{no_order, order_of, reading_of, order_said, in_fo
 use Rattle.meo.specs.Laying.{formed, message_long, message_length}
 use Rattle.meo.proofs.Trips.{holds_lay, again, message_read, message_itself}
 use Rattle.meo.specs.declared.NewOrder.{NewOrder}
-use Rattle.meo.specs.declared.Sent.{Sent}
-use Rattle.meo.specs.declared.Found.{Found}
 
 -- ── what a call that is not refused has tried ──
 said_none : (k : ℕ) (x : Said) → (cond (eqb k 0) x (refuses k)).number ≡ 0 → k ≡ 0
@@ -37,11 +35,11 @@ record Written (l : List ℕ) (n : NewOrder) (h b : List ℕ) : Type 0 where
 
 written : (l : List ℕ) (n : NewOrder) (h b : List ℕ) → (write_said l n h b).number ≡ 0 → Written l n h b
 unfolding write_said
-written l n h b e = let c = first_clear (write_checks l n h b) refl (said_none (first (write_checks l n h b)) (sent_said Sent.Message) e) in
+written l n h b e = let c = first_clear (write_checks l n h b) refl (said_none (first (write_checks l n h b)) (sent_said (Ok tt)) e) in
     record { typed = not-false (is_message h) c.0; formed = not-false (in_form l n) c.1.0; room = ltb-false (length b) 131 c.1.1.0 }
 
 -- and what it leaves
-passes : (l : List ℕ) (n : NewOrder) (h b : List ℕ) → Written l n h b → (write_said l n h b ≡ sent_said Sent.Message) × (write_left l n h b ≡ begun (message h (order_said l n)) b)
+passes : (l : List ℕ) (n : NewOrder) (h b : List ℕ) → Written l n h b → (write_said l n h b ≡ sent_said (Ok tt)) × (write_left l n h b ≡ begun (message h (order_said l n)) b)
 unfolding write_said write_left first
 passes l n h b w = (rw (w.typed, w.formed, le-ltb (length b) 131 w.room), rw (w.typed, w.formed, le-ltb (length b) 131 w.room))
 
@@ -57,7 +55,7 @@ read m e = let c = first_clear (read_checks m) refl e in record { typed = not-fa
 -- THEOREM. "nothing written": a call that is refused leaves the output as it was
 pub refused_leaves : (l : List ℕ) (n : NewOrder) (h b : List ℕ) → ((write_said l n h b).number ≡ 0 → ⊥) → write_left l n h b ≡ b
 unfolding write_said write_left
-refused_leaves l n h b = on (λ t. ((cond t (sent_said Sent.Message) (refuses (first (write_checks l n h b)))).number ≡ 0 → ⊥) → cond t (begun (message h (order_said l n)) b) b ≡ b) (eqb (first (write_checks l n h b)) 0) (λ e no. absurd (no refl)) (λ e no. refl)
+refused_leaves l n h b = on (λ t. ((cond t (sent_said (Ok tt)) (refuses (first (write_checks l n h b)))).number ≡ 0 → ⊥) → cond t (begun (message h (order_said l n)) b) b ≡ b) (eqb (first (write_checks l n h b)) 0) (λ e no. absurd (no refl)) (λ e no. refl)
 
 -- ── written then read ──
 -- what the first bytes of the output are, once it is written
@@ -72,7 +70,7 @@ sent_are l n h b w =
 
 -- THEOREM. The N is found again, and says what was written
 pub written_read : (l : List ℕ) (n : NewOrder) (h b : List ℕ) → (write_said l n h b).number ≡ 0
-    → (found : NewOrder) × (read_said (sent_bytes l n h b) ≡ found_said (Found.Order found)) × (order_said (sent_bytes l n h b) found ≡ order_said l n)
+    → (found : NewOrder) × (read_said (sent_bytes l n h b) ≡ found_said (Ok found)) × (order_said (sent_bytes l n h b) found ≡ order_said l n)
 written_read l n h b e =
     let w = written l n h b e in
     let t = message_read l n h w.formed (message_long h w.typed) in
@@ -87,7 +85,7 @@ same_record l m n found e = ap recorded e
 
 -- ── read then written ──
 -- the N that is read is the one where the table has it
-pub read_order : (m : List ℕ) (n : NewOrder) → read_said m ≡ found_said (Found.Order n) → ((read_said m).number ≡ 0) × (n ≡ order_at m)
+pub read_order : (m : List ℕ) (n : NewOrder) → read_said m ≡ found_said (Ok n) → ((read_said m).number ≡ 0) × (n ≡ order_at m)
 unfolding read_said
 read_order m n q =
     let z = ap (λ (x : Heard). x.number) q in
@@ -104,18 +102,18 @@ told_apart l l' n n' h h' b b' e e' q =
     let x = written_read l n h b e in
     let y = written_read l' n' h' b' e' in
     let m = sent_bytes l' n' h' b' in
-    let f = (read_order m x.0 (subst (λ (m : List ℕ). read_said m ≡ found_said (Found.Order x.0)) q x.1)).1 ∙ sym (read_order m y.0 y.1).1 in
+    let f = (read_order m x.0 (subst (λ (m : List ℕ). read_said m ≡ found_said (Ok x.0)) q x.1)).1 ∙ sym (read_order m y.0 y.1).1 in
     sym x.2 ∙ ap (λ (m : List ℕ). order_said m x.0) q ∙ ap (order_said m) f ∙ y.2
 
 -- THEOREM. The message is written again, if its other fields hold the house values
-pub read_written : (m : List ℕ) → All Byte m → (n : NewOrder) → read_said m ≡ found_said (Found.Order n) → (h b : List ℕ) → is_message h ≡ true → Holds m h 0 (table (order_said m n)) → 131 ≤ length b
-    → (write_said m n h b ≡ sent_said Sent.Message) × (write_left m n h b ≡ begun m b)
+pub read_written : (m : List ℕ) → All Byte m → (n : NewOrder) → read_said m ≡ found_said (Ok n) → (h b : List ℕ) → is_message h ≡ true → Holds m h 0 (table (order_said m n)) → 131 ≤ length b
+    → (write_said m n h b ≡ sent_said (Ok tt)) × (write_left m n h b ≡ begun m b)
 unfolding message
 read_written m bytes n q h b t k room =
     let z = read_order m n q in
     let r = read m z.0 in
     let w : Written m (order_at m) h b = record { typed = t; formed = r.formed; room = room } in
-    subst (λ (n : NewOrder). Holds m h 0 (table (order_said m n)) → (write_said m n h b ≡ sent_said Sent.Message) × (write_left m n h b ≡ begun m b)) (sym z.1)
+    subst (λ (n : NewOrder). Holds m h 0 (table (order_said m n)) → (write_said m n h b ≡ sent_said (Ok tt)) × (write_left m n h b ≡ begun m b)) (sym z.1)
     (λ k. ((passes m (order_at m) h b w).0, (passes m (order_at m) h b w).1 ∙ ap (λ (x : List ℕ). begun x b) (holds_lay m h 0 (table (order_said m (order_at m))) k ∙ message_itself m bytes r.typed r.formed r.bare))) k
 
 -- THEOREM. A message is read exactly where it is some N in its forms, written over itself

@@ -3,6 +3,7 @@ use mathlib.Core.Path.{◌≡◌, refl, sym, ap, ◌∙◌}
 use mathlib.Core.Bool.{cond}
 use mathlib.Core.Option.{Option, none, some}
 use Prim.Native.Nat.{ℕ}
+use Rattle.std.specs.Prelude.{Result, Ok, Err}
 use lib.Dec.{eqb}
 use Rattle.fields.proofs.Single.{Once}
 use Rattle.meo.proofs.order_of.Kinds as order-of-kinds
@@ -14,30 +15,30 @@ use Rattle.meo.proofs.read.Reads as read-reads
 use Rattle.fields.specs.Out.{Said}
 use Rattle.meo.specs.Messages.{sent_said, Heard, found_said}
 use Rattle.meo.specs.declared.NewOrder.{NewOrder}
-use Rattle.meo.specs.declared.Sent.{Sent}
-use Rattle.meo.specs.declared.Found.{Found}
+use Rattle.meo.specs.declared.SendError.{SendError}
+use Rattle.meo.specs.declared.ReadError.{ReadError}
 
 order_of_once : Once 0 order-of-kinds.ps order-of-kinds.r order-of-reads.Post (λ κs x s. x)
 order_of_once κs a x y s t p q = p ∙ sym q
 
 -- the answer that says so
-abbrev sent_for : Said → Sent
-sent_for x = cond (eqb x.number 0) Sent.Message (cond (eqb x.number 41) Sent.BadMessage (cond (eqb x.number 42) Sent.BadOrder Sent.ShortOutput))
+abbrev sent_for : Said → Result (Unit {0}) SendError
+sent_for x = cond (eqb x.number 0) (Ok tt) (cond (eqb x.number 41) (Err SendError.BadMessage) (cond (eqb x.number 42) (Err SendError.BadOrder) (Err SendError.ShortOutput)))
 
-sent_back : (x : Sent) → sent_for (sent_said x) ≡ x
-sent_back Sent.Message = refl
-sent_back Sent.BadMessage = refl
-sent_back Sent.BadOrder = refl
-sent_back Sent.ShortOutput = refl
+sent_back : (x : Result (Unit {0}) SendError) → sent_for (sent_said x) ≡ x
+sent_back (Ok u) = refl
+sent_back (Err SendError.BadMessage) = refl
+sent_back (Err SendError.BadOrder) = refl
+sent_back (Err SendError.ShortOutput) = refl
 
-abbrev found_or : ℕ → Option NewOrder → Found
-found_or k none = cond (eqb k 41) Found.BadMessage Found.BadOrder
-found_or k (some n) = Found.Order n
+abbrev found_or : ℕ → Option NewOrder → Result NewOrder ReadError
+found_or k none = cond (eqb k 41) (Err ReadError.BadMessage) (Err ReadError.BadOrder)
+found_or k (some n) = Ok n
 
-found_back : (x : Found) → found_or (found_said x).number (found_said x).order ≡ x
-found_back (Found.Order n) = refl
-found_back Found.BadMessage = refl
-found_back Found.BadOrder = refl
+found_back : (x : Result NewOrder ReadError) → found_or (found_said x).number (found_said x).order ≡ x
+found_back (Ok n) = refl
+found_back (Err ReadError.BadMessage) = refl
+found_back (Err ReadError.BadOrder) = refl
 
 write_once : Once 3 write-kinds.ps write-kinds.r write-reads.Post (λ κs x s. x)
 write_once κs a x y s t p q = sym (sent_back x) ∙ ap sent_for (p.0 ∙ sym q.0) ∙ sent_back y

@@ -1,5 +1,5 @@
 -- Document 02, order 2: "Written then read gives the N back; read then written gives the message back if its other fields hold the house values."
-use Rattle.std.specs.Prelude.{◌≡◌, refl, Bool, true, cond, ℕ, zero, suc, ◌+◌, ◌-◌, ◌%◌, ◌≤◌, ◌<◌, get_or, eqb}
+use Rattle.std.specs.Prelude.{◌≡◌, refl, Bool, true, cond, ℕ, zero, suc, ◌+◌, ◌-◌, ◌%◌, ◌≤◌, ◌<◌, get_or, eqb, Ok}
 use Rattle.std.proofs.Common.{sym, ◌∙◌, drop-cons, take_all, take_at, drop_at, eqb-true, ne_eqb}
 use Rattle.std.proofs.Math.Path.{ap, subst}
 use Rattle.std.proofs.lemmas.Bool.{false≢true}
@@ -22,7 +22,6 @@ use Rattle.meo.specs.Messages.{order_said, in_form, is_message, message, text_wi
 use Rattle.meo.specs.Parts.{stretch_add, length_stretch, row_word, word_row, widths, Fits, lay_house, lay_rows}
 use Rattle.meo.specs.Laying.{formed, message_long, table_fits, message_length, text_width_most, own, bits_small, zero_rows, in_parts}
 use Rattle.meo.specs.declared.NewOrder.{NewOrder}
-use Rattle.meo.specs.declared.Found.{Found}
 
 -- ── the house values ──
 -- a message that holds them has the same rows over either
@@ -177,7 +176,7 @@ module _ (l : List ℕ) (n : NewOrder) (h : List ℕ) (ok : in_form l n ≡ true
   again_plain = rw (name_parts.1, zeros_stand, purge_stands, zeros_of (20 - length (said l n.name)), zeros_of 20)
 
   -- THEOREM. Written then read: the N that is found says what the N said that was written
-  pub message_read : (read_said m ≡ found_said (Found.Order (again l n))) × (order_said m (again l n) ≡ order_said l n)
+  pub message_read : (read_said m ≡ found_said (Ok (again l n))) × (order_said m (again l n) ≡ order_said l n)
   unfolding read_said first
   message_read = (rw (is_one, order_stands, again_in_form, again_plain), rw (name_parts.0, mpid_stands))
 

@@ -1,5 +1,5 @@
 -- Document 02, order 2: an N written as the exchange's New Order Request, and read back. Refusals "41 .., 42 .., 43 .., in that order, nothing written".
-use Rattle.std.specs.Prelude.{◌≡◌, Bool, not, ◌&&◌, cond, List, [], ◌∷◌, ℕ, suc, ◌+◌, ◌%◌, ◌<◌, ltb, eqb, length, get_or}
+use Rattle.std.specs.Prelude.{◌≡◌, Bool, not, ◌&&◌, cond, List, [], ◌∷◌, ℕ, suc, ◌+◌, ◌%◌, ◌<◌, ltb, eqb, length, get_or, Result, Ok, Err}
 use Rattle.std.proofs.Math.Option.{Option, none, some}
 use Prim.Native.Char.{code}
 use Rattle.laws.specs.Tables.{find}
@@ -15,8 +15,8 @@ use Rattle.codec.specs.declared.Reading.{Reading}
 use Rattle.codec.specs.declared.Reading.TheVariants.{Broken, Group, Symbol, Open, New, Change, Cancel, Block, Unblock, Quote, Fill, Reduction, CancelRefused}
 use Rattle.meo.specs.Table.{Row, string, alphanumeric, binary, house, upon, lay, side_bits, Order, table}
 use Rattle.meo.specs.declared.NewOrder.{NewOrder}
-use Rattle.meo.specs.declared.Sent.{Sent}
-use Rattle.meo.specs.declared.Found.{Found}
+use Rattle.meo.specs.declared.SendError.{SendError}
+use Rattle.meo.specs.declared.ReadError.{ReadError}
 
 -- ── the N ──
 -- the N of a record; of another kind, one that has no form
@@ -73,15 +73,18 @@ write_checks l n h b =
     ∷ (ltb (length b) 131 ⇒ 43)
     ∷ []
 
-abbrev pub sent_said : Sent → Said
-sent_said Sent.Message = record { number = 0; bytes = 131 }
-sent_said Sent.BadMessage = refuses 41
-sent_said Sent.BadOrder = refuses 42
-sent_said Sent.ShortOutput = refuses 43
+abbrev pub send_number : SendError → ℕ
+send_number SendError.BadMessage = 41
+send_number SendError.BadOrder = 42
+send_number SendError.ShortOutput = 43
+
+abbrev pub sent_said : Result (Unit {0}) SendError → Said
+sent_said (Ok u) = record { number = 0; bytes = 131 }
+sent_said (Err e) = refuses (send_number e)
 
 -- what the call says, and the output after it
 unfoldable pub write_said : List ℕ → NewOrder → List ℕ → List ℕ → Said
-write_said l n h b = let k = first (write_checks l n h b) in cond (eqb k 0) (sent_said Sent.Message) (refuses k)
+write_said l n h b = let k = first (write_checks l n h b) in cond (eqb k 0) (sent_said (Ok tt)) (refuses k)
 
 unfoldable pub write_left : List ℕ → NewOrder → List ℕ → List ℕ → List ℕ
 write_left l n h b = cond (eqb (first (write_checks l n h b)) 0) (begun (message h (order_said l n)) b) b
@@ -135,10 +138,13 @@ pub record Heard : Type 0 where
   pub number : ℕ
   pub order : Option NewOrder
 
-abbrev pub found_said : Found → Heard
-found_said (Found.Order n) = record { number = 0; order = some n }
-found_said Found.BadMessage = record { number = 41; order = none }
-found_said Found.BadOrder = record { number = 42; order = none }
+abbrev pub read_number : ReadError → ℕ
+read_number ReadError.BadMessage = 41
+read_number ReadError.BadOrder = 42
+
+abbrev pub found_said : Result NewOrder ReadError → Heard
+found_said (Ok n) = record { number = 0; order = some n }
+found_said (Err e) = record { number = read_number e; order = none }
 
 unfoldable pub read_said : List ℕ → Heard
 read_said m = let k = first (read_checks m) in record { number = k; order = cond (eqb k 0) (some (order_at m)) none }

@@ -6,14 +6,14 @@ ghost use Rattle.rulebook.specs.Names.{word};
 ghost use Rattle.rulebook.specs.Lines.{identifier, mpid};
 ghost use Rattle.fields.specs.Parts.{unnamed, unlisted, stretch, said, has_form};
 ghost use Rattle.fields.specs.Series.{side_of};
-ghost use Rattle.fields.specs.Out.{out, puts, begun};
+ghost use Rattle.fields.specs.Out.{puts, begun, cursor, Leaves};
 ghost use Rattle.packing.specs.Words.{row};
 ghost use Rattle.meo.specs.Table.{filled, lay, side_bits, instructions};
-ghost use Rattle.meo.specs.Messages.{order_of, order_said, in_form, is_message, message, sent_said, write_said, write_left, text_width, side_with, order_at, zeros, plain, found_said, read_said};
+ghost use Rattle.meo.specs.Messages.{order_of, order_said, in_form, is_message, message, send_number, sent_said, write_said, write_left, text_width, side_with, order_at, zeros, plain, read_number, found_said, read_said};
 ghost use Rattle.meo.specs.Laying.{own};
 
 use codec::Reading;
-use fields::{IDENTIFIER, MPID, Place, SIDE};
+use fields::{Form, Place, Writer};
 
 // The bytes of a message.
 pub const LENGTH: usize = 131;
@@ -51,23 +51,45 @@ pub struct NewOrder {
     pub price: u64,
 }
 
-// What a writer says: that the message is written; or 41, 42 or 43, and nothing is.
-#[derive(Clone, Copy)]
-pub enum Sent {
-    Message,
+// Why no message is written: 41, 42 or 43.
+#[derive(Clone, Copy, PartialEq, Eq, Debug)]
+pub enum SendError {
     BadMessage,
     BadOrder,
     ShortOutput,
 }
 
-// What a reader says: the N; or 41 or 42.
-#[derive(Clone, Copy)]
-pub enum Found {
-    Order(NewOrder),
+impl From<SendError> for u64 {
+    ghost from_gives = { λ e n. n ≡ send_number e };
+
+    fn from(why: SendError) -> u64 {
+        match why {
+            SendError::BadMessage => 41,
+            SendError::BadOrder => 42,
+            SendError::ShortOutput => 43,
+        }
+    }
+}
+
+// Why no N is read: 41 or 42.
+#[derive(Clone, Copy, PartialEq, Eq, Debug)]
+pub enum ReadError {
     BadMessage,
     BadOrder,
 }
 
+impl From<ReadError> for u64 {
+    ghost from_gives = { λ e n. n ≡ read_number e };
+
+    fn from(why: ReadError) -> u64 {
+        match why {
+            ReadError::BadMessage => 41,
+            ReadError::BadOrder => 42,
+        }
+    }
+}
+
+// kept: `order_of` answers for every record, as its definition does, so there is no `Option` here; `write` refuses what has no form.
 fn no_order() -> NewOrder
     ensures { result ≡ order_of Reading.Broken }
 {
@@ -101,18 +123,18 @@ pub fn order_of(rec: Reading) -> NewOrder
             size,
             price,
         },
-        Reading::Broken => no_order(),
-        Reading::Group { .. } => no_order(),
-        Reading::Symbol { .. } => no_order(),
-        Reading::Open => no_order(),
-        Reading::Change { .. } => no_order(),
-        Reading::Cancel { .. } => no_order(),
-        Reading::Block { .. } => no_order(),
-        Reading::Unblock { .. } => no_order(),
-        Reading::Quote { .. } => no_order(),
-        Reading::Fill { .. } => no_order(),
-        Reading::Reduction { .. } => no_order(),
-        Reading::CancelRefused { .. } => no_order(),
+        Reading::Broken
+        | Reading::Group { .. }
+        | Reading::Symbol { .. }
+        | Reading::Open
+        | Reading::Change { .. }
+        | Reading::Cancel { .. }
+        | Reading::Block { .. }
+        | Reading::Unblock { .. }
+        | Reading::Quote { .. }
+        | Reading::Fill { .. }
+        | Reading::Reduction { .. }
+        | Reading::CancelRefused { .. } => no_order(),
     }
 }
 
@@ -120,89 +142,68 @@ pub fn order_of(rec: Reading) -> NewOrder
 fn is_name(line: &[u8], at: Place) -> bool
     ensures { result ≡ has_form (identifier unnamed) (said line.now at) }
 {
-    fields::is_text(fields::part(line, at), IDENTIFIER, 1, 20)
+    fields::is_text(fields::part(line, at), Form::Identifier, 1, 20)
 }
 
 fn is_mpid(line: &[u8], at: Place) -> bool
     ensures { result ≡ has_form (mpid unlisted) (said line.now at) }
 {
-    fields::is_text(fields::part(line, at), MPID, 4, 4)
+    fields::is_text(fields::part(line, at), Form::Mpid, 4, 4)
 }
 
 // Whether each field has document 01's form for it.
+#[tactic(auto, using(laws::specs::Checks::rules_tried), unfolding(crate::specs::Messages::in_form, packing::specs::Fitting::fits))]
 fn is_order(line: &[u8], n: NewOrder) -> bool
     ensures { result ≡ in_form line.now n }
 {
-    if !is_name(line, n.name) {
-        return false;
-    }
-    if !is_mpid(line, n.mpid) {
-        return false;
-    }
-    if !packing::in_range(1, 4_294_967_295, n.symbol) {
-        return false;
-    }
-    if !fields::takes_byte(SIDE, n.side) {
-        return false;
-    }
-    if !packing::in_range(1, 1_000_000, n.size) {
-        return false;
-    }
-    packing::in_range(1, 999_999_999_999, n.price)
+    is_name(line, n.name)
+        && is_mpid(line, n.mpid)
+        && packing::in_range(1, 4_294_967_295, n.symbol)
+        && fields::takes_byte(Form::Side, n.side)
+        && packing::in_range(1, 1_000_000, n.size)
+        && packing::in_range(1, 999_999_999_999, n.price)
 }
 
 // Whether bytes have a message's length and type.
+#[tactic(auto, unfolding(crate::specs::Messages::is_message))]
 fn is_message(m: &[u8]) -> bool
     ensures { result ≡ is_message m.now }
 {
-    if m.len() != LENGTH {
-        return false;
-    }
-    if m[0] != b'N' {
-        return false;
-    }
-    m[1] == b'1'
+    m.len() == LENGTH && m[0] == b'N' && m[1] == b'1'
 }
 
 // ── writing ──
 // A byte so many times, where it has room.
-fn put_times(to: &mut [u8], at: usize, b: u8, times: usize) -> usize
-    ensures { out to.new result ≡ puts (out to.old at) (replicate times b) }
+fn put_times(to: &mut Writer, b: u8, times: usize)
+    ensures { Leaves to.old to.new (puts (cursor to.old) (replicate times b)) }
 {
-    let mut e = at;
-    let mut i = 0;
-    while i < times {
-        e = fields::put(to, e, b);
-        i += 1;
+    for _ in 0..times {
+        to.put(b);
     }
-    e
 }
 
 // So many bytes of a number, the lowest first.
-fn put_binary(to: &mut [u8], at: usize, n: u64, width: usize) -> usize
-    ensures { out to.new result ≡ puts (out to.old at) (row width n) }
+fn put_binary(to: &mut Writer, n: u64, width: usize)
+    ensures { Leaves to.old to.new (puts (cursor to.old) (row width n)) }
 {
-    let mut e = at;
     let mut left = n;
-    let mut i = 0;
-    while i < width {
-        e = fields::put(to, e, (left % 256) as u8);
-        left = left / 256;
-        i += 1;
+    for _ in 0..width {
+        to.put((left % 256) as u8);
+        left /= 256;
     }
-    e
 }
 
 // A text filled up to so many bytes.
-fn put_filled(to: &mut [u8], at: usize, text: &[u8], width: usize, pad: u8) -> usize
+fn put_filled(to: &mut Writer, text: &[u8], width: usize, pad: u8)
     requires { length text.now ≤ width }
-    ensures { out to.new result ≡ puts (out to.old at) (filled pad width text.now) }
+    ensures { Leaves to.old to.new (puts (cursor to.old) (filled pad width text.now)) }
 {
-    let e = fields::put_all(to, at, text);
-    put_times(to, e, pad, width - text.len())
+    to.put_all(text);
+    put_times(to, pad, width - text.len());
 }
 
 // The bits of a side: whether it sells, and the short sale indicator.
+// kept: a side is its letter, since `in_form` and the contracts of `write` and `read` speak of any byte there.
 fn bits_of(side: u8) -> u64
     ensures { result ≡ side_bits (side_of side) }
 {
@@ -237,32 +238,31 @@ fn instructions_of(side: u8, house: &[u8]) -> u64
 }
 
 // MPID and Client Order ID.
-fn put_texts(to: &mut [u8], at: usize, line: &[u8], n: NewOrder) -> usize
+fn put_texts(to: &mut Writer, line: &[u8], n: NewOrder)
     requires { in_form line.now n ≡ true }
-    ensures { out to.new result ≡ puts (puts (out to.old at) (filled 32 4 (said line.now n.mpid))) (filled 0 20 (said line.now n.name)) }
+    ensures { Leaves to.old to.new (puts (puts (cursor to.old) (filled 32 4 (said line.now n.mpid))) (filled 0 20 (said line.now n.name))) }
 {
-    let e = put_filled(to, at, fields::part(line, n.mpid), 4, b' ');
-    put_filled(to, e, fields::part(line, n.name), 20, 0)
+    put_filled(to, fields::part(line, n.mpid), 4, b' ');
+    put_filled(to, fields::part(line, n.name), 20, 0);
 }
 
 // Symbol ID, Price, Size and Order Instructions.
-fn put_numbers(to: &mut [u8], at: usize, n: NewOrder, w: u64) -> usize
-    ensures { out to.new result ≡ puts (puts (puts (puts (out to.old at) (row 4 n.symbol)) (row 8 n.price)) (row 4 n.size)) (row 2 w) }
+fn put_numbers(to: &mut Writer, n: NewOrder, w: u64)
+    ensures { Leaves to.old to.new (puts (puts (puts (puts (cursor to.old) (row 4 n.symbol)) (row 8 n.price)) (row 4 n.size)) (row 2 w)) }
 {
-    let a = put_binary(to, at, n.symbol, 4);
-    let b = put_binary(to, a, n.price, 8);
-    let c = put_binary(to, b, n.size, 4);
-    put_binary(to, c, w, 2)
+    put_binary(to, n.symbol, 4);
+    put_binary(to, n.price, 8);
+    put_binary(to, n.size, 4);
+    put_binary(to, w, 2);
 }
 
 // The fields of N, from its MPID to Order Instructions.
-fn put_order(to: &mut [u8], line: &[u8], n: NewOrder, house: &[u8]) -> usize
+fn put_order(to: &mut Writer, line: &[u8], n: NewOrder, house: &[u8])
     requires { in_form line.now n ≡ true }
-    ensures { out to.new result ≡ puts (out to.old 10) (lay house.now 10 (own (order_said line.now n))) }
+    ensures { Leaves to.old to.new (puts (cursor to.old) (lay house.now 10 (own (order_said line.now n)))) }
 {
-    let w = instructions_of(n.side, house);
-    let e = put_texts(to, MPID_AT, line, n);
-    put_numbers(to, e, n, w)
+    put_texts(to, line, n);
+    put_numbers(to, n, instructions_of(n.side, house));
 }
 
 // The house message, with the fields of N over it, and those that are zero or a space.
@@ -270,29 +270,33 @@ fn put_message(to: &mut [u8], line: &[u8], n: NewOrder, house: &[u8])
     requires { (is_message house.now ≡ true) × (in_form line.now n ≡ true) × (131 ≤ length to.old) }
     ensures { to.new ≡ begun (message house.now (order_said line.now n)) to.old }
 {
-    fields::hand_over(house, LENGTH, to);
-    put_order(to, line, n, house);
-    put_times(to, MIN_QTY_AT, 0, LOCATE_AT - MIN_QTY_AT);
-    fields::put(to, PURGE_AT, b' ');
+    to[..LENGTH].copy_from_slice(house);
+    let mut over = Writer { to, at: MPID_AT };
+    put_order(&mut over, line, n, house);
+    over.at = MIN_QTY_AT;
+    put_times(&mut over, 0, LOCATE_AT - MIN_QTY_AT);
+    over.at = PURGE_AT;
+    over.put(b' ');
 }
 
 // Writes an N as a New Order Request at the output's start, with the fields that N does not carry from the house message. 41 where that has not the length
 // or the type, 42 where a field of N has not document 01's form, 43 where the output is too short, and nothing is written.
-pub fn write(line: &[u8], n: NewOrder, house: &[u8], to: &mut [u8]) -> Sent
+#[tactic(auto, unfolding(crate::specs::Messages::write_said, crate::specs::Messages::write_left, laws::specs::Checks::first))]
+pub fn write(line: &[u8], n: NewOrder, house: &[u8], to: &mut [u8]) -> Result<(), SendError>
     ensures answer { sent_said result ≡ write_said line.now n house.now to.old }
     ensures buffer { to.new ≡ write_left line.now n house.now to.old }
 {
     if !is_message(house) {
-        return Sent::BadMessage;
+        return Err(SendError::BadMessage);
     }
     if !is_order(line, n) {
-        return Sent::BadOrder;
+        return Err(SendError::BadOrder);
     }
     if to.len() < LENGTH {
-        return Sent::ShortOutput;
+        return Err(SendError::ShortOutput);
     }
     put_message(to, line, n, house);
-    Sent::Message
+    Ok(())
 }
 
 // ── reading ──
@@ -300,17 +304,11 @@ pub fn write(line: &[u8], n: NewOrder, house: &[u8], to: &mut [u8]) -> Sent
 fn text_width(f: &[u8]) -> usize
     ensures { result ≡ text_width f.now }
 {
-    let mut i = 0;
-    while i < f.len() {
-        if f[i] == 0 {
-            return i;
-        }
-        i += 1;
-    }
-    i
+    f.iter().position(|b| *b == 0).unwrap_or(f.len())
 }
 
 // The letter of the side that has these bits, or 0.
+// kept: what may not change (`side_with`, under `read_said`): 0 for bits that no side has
 fn side_with(bits: u64) -> u8
     ensures { result ≡ side_with bits }
 {
@@ -378,14 +376,7 @@ fn order_at(m: &[u8]) -> NewOrder
 fn all_zero(f: &[u8]) -> bool
     ensures { result ≡ zeros f.now }
 {
-    let mut i = 0;
-    while i < f.len() {
-        if f[i] != 0 {
-            return false;
-        }
-        i += 1;
-    }
-    true
+    f.iter().all(|b| *b == 0)
 }
 
 fn is_zero(m: &[u8], from: usize, to: usize) -> bool
@@ -395,32 +386,30 @@ fn is_zero(m: &[u8], from: usize, to: usize) -> bool
 }
 
 // Whether nulls fill the Client Order ID up from a place on, the four fields are zero and Purge Group is a space.
+#[tactic(auto, using(laws::specs::Checks::rules_tried), unfolding(crate::specs::Messages::plain))]
 fn is_plain(m: &[u8], end: usize) -> bool
     ensures { result ≡ plain m.now end }
 {
-    if !is_zero(m, end, SYMBOL_AT) {
-        return false;
-    }
-    if !is_zero(m, MIN_QTY_AT, LOCATE_AT) {
-        return false;
-    }
-    fields::byte_at(m, PURGE_AT) == b' '
+    is_zero(m, end, SYMBOL_AT)
+        && is_zero(m, MIN_QTY_AT, LOCATE_AT)
+        && fields::byte_at(m, PURGE_AT) == b' '
 }
 
 // Reads a New Order Request: the N, its texts by their places in the message. 41 where it has not the length or the type; 42 where a field of N has not
 // document 01's form, or one of the fields that N never sets is set.
-pub fn read(m: &[u8]) -> Found
+#[tactic(auto, unfolding(crate::specs::Messages::read_said, laws::specs::Checks::first))]
+pub fn read(m: &[u8]) -> Result<NewOrder, ReadError>
     ensures { found_said result ≡ read_said m.now }
 {
     if !is_message(m) {
-        return Found::BadMessage;
+        return Err(ReadError::BadMessage);
     }
     let n = order_at(m);
     if !is_order(m, n) {
-        return Found::BadOrder;
+        return Err(ReadError::BadOrder);
     }
     if !is_plain(m, n.name.to) {
-        return Found::BadOrder;
+        return Err(ReadError::BadOrder);
     }
-    Found::Order(n)
+    Ok(n)
 }

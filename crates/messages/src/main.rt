@@ -10,64 +10,28 @@
 ghost use Rattle.std.specs.Prelude.{◌≤◌, ◌<◌, length};
 
 use codec::Reading;
-use fields::{Place, Written};
-use meo::{Found, NewOrder, Sent};
+use fields::{Place, Writer};
+use meo::NewOrder;
 use std::io;
 
 const MOST: usize = 200;
 
-fn say(rt: &impl Print, text: &[u8]) -> io::Result<()> {
-    rt.write_all(text)
-}
-
-fn say_number(rt: &impl Print, n: u64) -> io::Result<()> {
-    say(rt, b" ")?;
-    print!(rt; "{n}")
-}
-
-fn digit_value(digit: u8) -> u8
-    ensures { result < 16 }
-{
-    match digit {
-        b'0'..=b'9' => digit - b'0',
-        b'a'..=b'f' => digit - b'a' + 10,
-        _ => 0,
-    }
-}
-
-fn digit_of(value: u8) -> u8
-    requires { value < 16 }
-{
-    if value < 10 {
-        return b'0' + value;
-    }
-    b'a' + (value - 10)
-}
-
-fn byte_of(high: u8, low: u8) -> u8 {
-    digit_value(high) * 16 + digit_value(low)
-}
-
 // Puts the bytes that hex digits say, and answers how many there are.
 fn from_hex(text: &[u8], to: &mut [u8]) -> usize {
-    let mut count = 0;
-    for i in 0..text.len() / 2 {
-        count = fields::put(to, count, byte_of(text[2 * i], text[2 * i + 1]));
+    let mut bytes = Writer { to, at: 0 };
+    for pair in text.chunks_exact(2) {
+        bytes.put(input::hex_byte(pair[0], pair[1]));
     }
-    count
-}
-
-fn say_byte(rt: &impl Print, b: u8) -> io::Result<()> {
-    say(rt, &[digit_of(b / 16), digit_of(b % 16)])
+    bytes.at
 }
 
 // Says bytes in hex, `-` where there are none.
 fn say_hex(rt: &impl Print, bytes: &[u8]) -> io::Result<()> {
-    if bytes.len() == 0 {
-        say(rt, b"-")?;
+    if bytes.is_empty() {
+        print!(rt; "-")?;
     }
-    for i in 0..bytes.len() {
-        say_byte(rt, bytes[i])?;
+    for b in bytes {
+        print!(rt; "{b:02x}")?;
     }
     Ok(())
 }
@@ -76,14 +40,10 @@ fn say_hex(rt: &impl Print, bytes: &[u8]) -> io::Result<()> {
 fn word_end(text: &[u8], at: usize) -> usize
     ensures { result ≤ length text.now }
 {
-    let mut i = at;
-    while i < text.len() {
-        if text[i] == b' ' {
-            return i;
-        }
-        i += 1;
+    match text.iter().skip(at).position(|b| *b == b' ') {
+        Some(count) => at + count,
+        None => text.len(),
     }
-    text.len()
 }
 
 fn word(text: &[u8], from: usize, to: usize) -> &[u8] {
@@ -93,10 +53,11 @@ fn word(text: &[u8], from: usize, to: usize) -> &[u8] {
 fn digit_at(text: &[u8], at: usize) -> usize
     ensures { result < 16 }
 {
-    digit_value(fields::byte_at(text, at)) as usize
+    usize::from(input::hex_value(fields::byte_at(text, at)))
 }
 
 // A number of one to three digits.
+// kept: what may not change, the output on every input: the digits are read as hex digits, so that an `a` is ten
 fn size_of(text: &[u8]) -> usize {
     let a = digit_at(text, 0);
     let b = digit_at(text, 1);
@@ -110,74 +71,67 @@ fn size_of(text: &[u8]) -> usize {
     a * 100 + b * 10 + c
 }
 
-fn number_of(sent: Sent) -> u64 {
-    match sent {
-        Sent::Message => 0,
-        Sent::BadMessage => 41,
-        Sent::BadOrder => 42,
-        Sent::ShortOutput => 43,
-    }
-}
-
 // Has a line's N written where there is room for so many bytes, and answers the number.
 fn write_within(size: usize, house: &[u8], line: &[u8], to: &mut [u8]) -> u64 {
     if size > to.len() {
         return 0;
     }
     let n = meo::order_of(codec::read(line));
-    number_of(meo::write(line, n, house, &mut to[0..size]))
+    match meo::write(line, n, house, &mut to[..size]) {
+        Ok(()) => 0,
+        Err(why) => u64::from(why),
+    }
 }
 
 fn test_write(rt: &impl Print, size: usize, house: &[u8], line: &[u8]) -> io::Result<()> {
     let mut out = [0xaau8; MOST];
     let number = write_within(size, house, line, &mut out);
-    say(rt, b"write")?;
-    say_number(rt, number)?;
-    say(rt, b" ")?;
+    print!(rt; "write {number} ")?;
     say_hex(rt, word(&out, 0, size))?;
-    say(rt, b"\n")
+    println!(rt)
 }
 
 // Says an N: its fields, and its line.
 fn say_order(rt: &impl Print, message: &[u8], n: NewOrder) -> io::Result<()> {
-    let name = n.name;
-    let mpid = n.mpid;
-    say_number(rt, name.from as u64)?;
-    say_number(rt, name.to as u64)?;
-    say_number(rt, mpid.from as u64)?;
-    say_number(rt, mpid.to as u64)?;
-    say_number(rt, n.symbol)?;
-    say(rt, b" ")?;
-    say(rt, &[n.side])?;
-    say_number(rt, n.size)?;
-    say_number(rt, n.price)?;
-    say(rt, b" ")?;
+    let NewOrder {
+        name,
+        mpid,
+        symbol,
+        side,
+        size,
+        price,
+    } = n;
+    print!(rt;
+        " {} {} {} {} {symbol} ",
+        name.from, name.to, mpid.from, mpid.to
+    )?;
+    rt.write_all(&[side])?;
+    print!(rt; " {size} {price} ")?;
     let record = Reading::New {
         name,
         mpid,
-        symbol: n.symbol,
-        side: n.side,
-        size: n.size,
-        price: n.price,
+        symbol,
+        side,
+        size,
+        price,
     };
     let mut line = [0u8; MOST];
-    if let Written::Bytes(count) = codec::write_record(message, record, &mut line) {
+    if let Ok(count) = codec::write_record(message, record, &mut line) {
         say_hex(rt, word(&line, 0, count))?;
     }
     Ok(())
 }
 
 fn test_read(rt: &impl Print, message: &[u8]) -> io::Result<()> {
-    say(rt, b"read")?;
+    print!(rt; "read ")?;
     match meo::read(message) {
-        Found::Order(n) => {
-            say_number(rt, 0)?;
+        Ok(n) => {
+            print!(rt; "0")?;
             say_order(rt, message, n)?;
         }
-        Found::BadMessage => say_number(rt, 41)?,
-        Found::BadOrder => say_number(rt, 42)?,
+        Err(why) => print!(rt; "{}", u64::from(why))?,
     }
-    say(rt, b"\n")
+    println!(rt)
 }
 
 fn test_vector(rt: &impl Print, text: &[u8]) -> io::Result<()> {
@@ -201,11 +155,9 @@ fn test_vector(rt: &impl Print, text: &[u8]) -> io::Result<()> {
 }
 
 fn test_vectors(rt: &impl Print, input: &[u8]) -> io::Result<()> {
-    let mut start = 0;
-    for end in 0..input.len() {
-        if input[end] == b'\n' {
-            test_vector(rt, &input[start..end])?;
-            start = end + 1;
+    for line in input.split_inclusive(|byte| *byte == b'\n') {
+        if let Some(text) = line.strip_suffix(b"\n") {
+            test_vector(rt, text)?;
         }
     }
     Ok(())

@@ -1,30 +1,18 @@
--- `meo::all_zero` meets its contract: what is left is zero exactly if all is.
-use Prim.Native.Nat.{◌<◌}
-use native.Mathlib.Numerals.{add-one}
-use native.Mathlib.Omega.{arith}
-use lib.ListN.{length, drop_of_length-le}
-use lib.Seq.{drop-cons}
-use borrow.Author.Tests.{ne_eqb}
+-- `meo::all_zero` meets its contract.
+use Rattle.std.proofs.Common.{rules, tests, ◌≡◌, ◌∙◌, refl, ap, eqb, ◌&&◌, Bool, ℕ, List, [], ◌∷◌}
+use Rattle.std.specs.List.{list_all}
+use Rattle.std.proofs.lemmas.Iterator.{YieldsList-from_slice}
+use Rattle.std.proofs.lemmas.Iterator.Search.{all_from_yields_List}
 use Rattle.fields.specs.Parts.{every}
 use Rattle.meo.specs.Messages.{zeros}
 use Rattle.meo.proofs.all_zero.Goals as goal
 
-pub returns-then-f-i-ne0 : goal.returns-then-f-i-ne0
-unfolding zeros every
-returns-then-f-i-ne0 c =
-    let f = c.args.f.now in
-    let i = c.loop-i.i in
-    let h : i < length f = omega arith in
-    rw (drop-cons f i 0 h, ne_eqb _ 0 c.if-f-i-ne0.true) at c.loop-i.invariant
-
-pub loop-i-preserved : goal.loop-i-preserved
-unfolding zeros every
-loop-i-preserved c =
-    let f = c.args.f.now in
-    let i = c.loop-i.i in
-    let h : i < length f = omega arith in
-    rw add-one (rw (drop-cons f i 0 h, c.if-f-i-ne0.false) at c.loop-i.invariant)
+-- the library's word for it
+all_every : (t : ℕ → Bool) (xs : List ℕ) → list_all t xs ≡ every t xs
+unfolding every
+all_every t [] = refl
+all_every t (x ∷ xs) = ap (λ b. t x && b) (all_every t xs)
 
 pub returns : goal.returns
-unfolding zeros every
-returns c = rw (drop_of_length-le _ c.loop-i-test.false) at c.loop-i.invariant
+unfolding zeros
+returns c = all_from_yields_List (λ b. eqb b 0) _ _ _ c.all.ensures.ran (YieldsList-from_slice c.args.f.now cc) (λ x b q k. search (rules, tests)) ∙ all_every (λ b. eqb b 0) c.args.f.now

@@ -1,19 +1,16 @@
--- `meo::put_binary` meets its contract: the rest, put from here, makes what the whole makes.
-use mathlib.Core.Path.{◌≡◌, ◌∙◌}
-use Prim.Native.Nat.{suc, ◌+◌, ◌-◌}
-use native.Mathlib.Omega.{arith}
+-- `meo::put_binary` meets its contract.
+use Rattle.std.proofs.Common.{◌≡◌, ◌∙◌, suc, ◌+◌, ◌-◌, arith}
 use Rattle.fields.specs.Out.{puts}
 use Rattle.packing.specs.Words.{row}
 use Rattle.meo.proofs.put_binary.Goals as goal
 
-pub loop-i-preserved : goal.loop-i-preserved
+pub loop-preserved : goal.loop-preserved
 unfolding puts row
-loop-i-preserved c =
-    let l = c.loop-i in
+loop-preserved c =
     let n = c.args.width in
-    let k : n - l.i ≡ suc (n - (l.i + 1)) = omega arith in
-    (rw c.put-e.ensures (rw k at l.invariant.0), c.put-e.auto.to ∙ l.invariant.1, omega arith)
+    let k : n - c.loop.counter ≡ suc (n - (c.loop.counter + 1)) = omega arith in
+    (c.put.ensures.0 ∙ c.loop.invariant.0, rw c.put.ensures.1 (rw k at c.loop.invariant.1))
 
 pub returns : goal.returns
 unfolding puts row
-returns c = let n = c.args.width in let z : n - c.loop-i.i ≡ 0 = omega arith in rw z at c.loop-i.invariant.0
+returns c = let z : c.args.width - c.loop.counter ≡ 0 = omega arith in (c.loop.invariant.0, rw z at c.loop.invariant.1)

@@ -1,32 +1,24 @@
--- `meo::text_width` meets its contract: from each place passed, the text ends where it ends from the first.
-use mathlib.Core.Path.{◌≡◌}
-use Prim.Native.Nat.{suc, ◌<◌, ◌+◌}
-use native.Mathlib.Numerals.{add-one}
-use native.Mathlib.Omega.{arith}
-use lib.ListN.{length, drop, drop_of_length-le}
-use lib.Seq.{drop-cons}
-use borrow.Author.Tests.{ne_eqb}
+-- `meo::text_width` meets its contract.
+use Rattle.std.proofs.Common.{rules, tests, ◌≡◌, ◌∙◌, refl, sym, ap, eqb, cond, ltb, ◌≤◌, length, ℕ, arith}
+use Rattle.std.specs.Prelude.{Some, None}
+use Rattle.std.specs.Option.{unwrap_or}
+use Rattle.std.specs.List.{position_or_len}
+use Rattle.std.proofs.Common.{ltb-false}
+use Rattle.std.proofs.lemmas.Iterator.{YieldsList-from_slice}
+use Rattle.std.proofs.lemmas.Iterator.Search.{position_from_yields_List}
+use Rattle.std.proofs.lemmas.List.Sums.{prefix_len-le-length}
+use Rattle.std.proofs.lemmas.List.Recursion.{is_position_or_len}
+use Rattle.laws.specs.Tests.{on}
 use Rattle.meo.specs.Messages.{text_width}
 use Rattle.meo.proofs.text_width.Goals as goal
 
-pub returns-then-f-i-eq0 : goal.returns-then-f-i-eq0
-unfolding text_width
-returns-then-f-i-eq0 c =
-    let f = c.args.f.now in
-    let i = c.loop-i.i in
-    let h : i < length f = omega arith in
-    let z : text_width (drop i f) ≡ 0 = rw (drop-cons f i 0 h, c.if-f-i-eq0.true) in
-    omega (arith, z)
-
-pub loop-i-preserved : goal.loop-i-preserved
-unfolding text_width
-loop-i-preserved c =
-    let f = c.args.f.now in
-    let i = c.loop-i.i in
-    let h : i < length f = omega arith in
-    let z : text_width (drop i f) ≡ suc (text_width (drop (i + 1) f)) = rw (drop-cons f i 0 h, ne_eqb _ 0 c.if-f-i-eq0.false, add-one) in
-    omega (arith, z)
+or_length : (n k : ℕ) → k ≤ n → unwrap_or (cond (ltb k n) (Some k) None) n ≡ k
+or_length n k h = on (λ t. ltb k n ≡ t → unwrap_or (cond t (Some k) None) n ≡ k) (ltb k n) (λ z e. refl) (λ z e. omega (arith, ltb-false k n e, h)) refl
 
 pub returns : goal.returns
 unfolding text_width
-returns c = let z : text_width (drop c.loop-i.i c.args.f.now) ≡ 0 = rw (drop_of_length-le _ c.loop-i-test.false) in omega arith
+returns c =
+    c.unwrap_or.ensures
+    ∙ ap (λ o. unwrap_or o (length c.args.f.now)) (position_from_yields_List (λ b. eqb b 0) _ _ _ c.position.ensures.ran (YieldsList-from_slice c.args.f.now cc) (λ x b q k. search (rules, tests)))
+    ∙ or_length (length c.args.f.now) (position_or_len (λ b. eqb b 0) c.args.f.now) (prefix_len-le-length _ c.args.f.now)
+    ∙ sym (is_position_or_len text_width (λ b. eqb b 0) refl (λ x xs. ap (λ (n : ℕ). cond (eqb x 0) 0 n) (omega arith)) c.args.f.now)
