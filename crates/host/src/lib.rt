@@ -81,7 +81,7 @@ pub extern "C" fn ticketmoss_record(mem: &mut [u64], line: &[u8], to: &mut [u8])
 {
     match calls::record(mem, line, to) {
         Ok(written) => written as i64,
-        Err(why) => refused(u64::from(why)),
+        Err(error) => refused(u64::from(error)),
     }
 }
 
@@ -115,7 +115,7 @@ pub extern "C" fn ticketmoss_closing(mem: &[u64], place: usize, to: &mut [u8]) -
 {
     match calls::closing(mem, place, to) {
         Ok(written) => written as i64,
-        Err(why) => refused(u64::from(why)),
+        Err(refusal) => refused(u64::from(refusal)),
     }
 }
 
@@ -128,7 +128,7 @@ pub extern "C" fn ticketmoss_order_write(line: &[u8], house: &[u8], to: &mut [u8
     let n = meo::order_of(codec::read(line));
     match meo::write(line, n, house, to) {
         Ok(()) => 131,
-        Err(why) => refused(u64::from(why)),
+        Err(unsent) => refused(u64::from(unsent)),
     }
 }
 
