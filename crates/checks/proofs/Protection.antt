@@ -1,15 +1,15 @@
 -- Document 01, "Price protection takes its row by the order's own price": the code's table of six rows. Its bounds are tested once to
 -- ascend, so a row takes the prices from the bound before its own up to its own.
 use Rattle.std.specs.Prelude.{◌≡◌, refl, true, cond, List, [], ◌∷◌, ◌++◌, map, ℕ, zero, suc, ◌≤◌, ◌<◌, ltb, length}
-use Rattle.std.proofs.Common.{sym, ap, ◌∙◌, arith, ltb-true, lt-ltb, le-ltb}
+use Rattle.std.proofs.Common.{sym, ap, ◌∙◌, arith, ltb-true, ltb-false, lt-ltb, le-ltb}
 use Rattle.std.proofs.Math.Bool.{and-eq-true_iff}
 use Rattle.std.specs.List.{find}
 use Rattle.std.specs.Option.{unwrap_or}
-use Rattle.std.specs.Prelude.{Some}
+use Rattle.std.specs.Prelude.{Option, Some, None}
 use Rattle.laws.specs.Tests.{on}
 use Rattle.rulebook.specs.Prices.{Row, row, rows, row_in}
 use Rattle.checks.specs.declared.Row.{Row as RowWords}
-use Rattle.checks.specs.Protection.{table, row_at, row_said, terms, ascending, start}
+use Rattle.checks.specs.Protection.{table, row_at, row_said, terms, found, ascending, start}
 
 pub table_ascends : ascending table ≡ true
 table_ascends = refl
@@ -60,12 +60,19 @@ row_right p i h s b = ap terms (sym (row_taken table table_ascends p i h s b)) �
 abbrev pub last : RowWords
 last = row_at table 5
 
--- what a search for a bound above a price finds says the row of the price; where it finds none, the last row says "otherwise"
-found_in : (p : ℕ) (l : List RowWords) → terms (row_said (unwrap_or (find (λ r. ltb p r.bound) l) last)) ≡ terms (row_in p (map row_said l))
-found_in p [] = refl
-found_in p (a ∷ l) = on (λ t. terms (row_said (unwrap_or (cond t (Some a) (find (λ r. ltb p r.bound) l)) last)) ≡ terms (cond t (row_said a) (row_in p (map row_said l)))) (ltb p a.bound) (λ e. refl) (λ e. found_in p l)
+-- what a search for a bound above a price ends with: a row that the price is among, or none, and then the rulebook's rows say "otherwise"
+search_ends : (P : Option RowWords → Type 0) (p : ℕ) (l : List RowWords) → ((i : ℕ) → i < length l → start l i ≤ p → p < (row_at l i).bound → P (Some (row_at l i))) → (row_in p (map row_said l) ≡ row_in p [] → P None) → P (find (λ r. ltb p r.bound) l)
+search_ends P p [] some none = none refl
+search_ends P p (a ∷ l) some none = on (λ t. P (cond t (Some a) (find (λ r. ltb p r.bound) l))) (ltb p a.bound) here (λ e. search_ends P p l (later (ltb-false p a.bound e)) (λ q. none (rw e q)))
+  where
+    here : ltb p a.bound ≡ true → P (Some a)
+    here e = some 0 (omega arith) (omega arith) (ltb-true p a.bound e)
 
--- THEOREM. The first row of the table whose bound is above a price has the percent and the dollar part of document 01's
-pub found_right : (p : ℕ) → terms (row_said (unwrap_or (find (λ r. ltb p r.bound) table) last)) ≡ terms (row_in p rows)
+    later : a.bound ≤ p → (i : ℕ) → i < length l → start l i ≤ p → p < (row_at l i).bound → P (Some (row_at l i))
+    later past zero h s b = some 1 (omega arith) past b
+    later past (suc i) h s b = some (suc (suc i)) (omega arith) s b
+
+-- THEOREM. The first row of the table whose bound is above a price, or the last where none is, has the percent and the dollar part of document 01's
+pub found_right : (p : ℕ) → terms (row_said (found table p)) ≡ terms (row_in p rows)
 unfolding rows
-found_right p = found_in p table ∙ otherwise_last p 1_000_000_000_000 rows
+found_right p = search_ends (λ o. terms (row_said (unwrap_or o last)) ≡ terms (row_in p rows)) p table (row_right p) (λ q. ap terms (sym q) ∙ otherwise_last p 1_000_000_000_000 rows)

@@ -1,6 +1,8 @@
 -- Document 01, "Price protection takes its row by the order's own price": the code's table of six rows. A row takes
 -- the prices from the bound before its own up to its own.
 use Rattle.std.specs.Prelude.{Bool, true, ◌&&◌, List, [], ◌∷◌, ℕ, zero, suc, ltb, get_or}
+use Rattle.std.specs.List.{find}
+use Rattle.std.specs.Option.{unwrap_or}
 use Rattle.rulebook.specs.Prices.{Row, row}
 use Rattle.checks.specs.declared.Row.{Row as RowWords}
 
@@ -28,6 +30,10 @@ row_said r = row r.bound r.percent r.dollars
 -- a row without its bound: percent and dollar part are what a price is held to
 abbrev pub terms : Row → Row
 terms (row below percent dollars) = row 0 percent dollars
+
+-- the row that the code takes for a price: the first whose bound is above it, and the last where none is
+abbrev pub found : List RowWords → ℕ → RowWords
+found l p = unwrap_or (find (λ r. ltb p r.bound) l) (row_at l 5)
 
 -- ── whether its bounds ascend ──
 abbrev pub ascending : List RowWords → Bool

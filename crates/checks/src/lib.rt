@@ -13,7 +13,7 @@ ghost use Rattle.books.specs.View.{group_of, rows_of};
 ghost use Rattle.checks.specs.Refusing.{number_of, number_said};
 ghost use Rattle.checks.specs.Saying.{figures_said, tally_said, terms_said, metrics_said, order_said, symbol_at};
 ghost use Rattle.checks.specs.Trying.{Measurable, Quotable, Checkable, new_figures, order_with, off_quotes, is_barred, price_checks};
-ghost use Rattle.checks.specs.Protection.{row_said, terms};
+ghost use Rattle.checks.specs.Protection.{table, found, row_said, terms};
 ghost use Rattle.checks.specs.Beyond.{Quoted};
 
 use books::Terms;
@@ -203,7 +203,8 @@ pub fn bad_price(price: u64) -> bool
 
 // The row that takes a price: the first whose bound is above it, and else the last.
 fn row_of(price: u64) -> Row
-    ensures { terms (row_said result) ≡ terms (row_in price rows) }
+    ensures found { result ≡ found table price }
+    ensures right { terms (row_said result) ≡ terms (row_in price rows) }
 {
     ROWS.iter()
         .copied()
