@@ -21,6 +21,7 @@ const LARGE_SLOTS: usize = 131_072;
 
 impl<'a> Rows<'a> {
     // The words of a row that are compared.
+    #[inline(always)]
     fn row(self, i: usize) -> &'a [u64]
         requires { i < self.count }
         ensures words { result.now ≡ slice_range self.entry.mem.now (start self.entry i) (start self.entry i + self.entry.words) }
@@ -31,6 +32,7 @@ impl<'a> Rows<'a> {
     }
 
     // Whether the i-th row begins with the words of the j-th. They are compared where they stand, up to the first that differs.
+    #[inline(always)]
     #[tactic(auto, using(crate::specs::Words::parts_same), unfolding(crate::specs::Words::same_row))]
     fn same(self, i: usize, j: usize) -> bool
         requires i_in_bounds { i < self.count }
@@ -42,6 +44,7 @@ impl<'a> Rows<'a> {
 }
 
 // Whether no row before the j-th begins with its words. Only those of its slot are looked at, the latest first.
+#[inline(always)]
 fn is_fresh(rows: Rows, next: &[u16], j: usize) -> bool
     requires j_in_bounds { j < rows.count }
     requires linked { Linked (hashes rows) next.now j }
@@ -59,6 +62,7 @@ fn is_fresh(rows: Rows, next: &[u16], j: usize) -> bool
 }
 
 // One row more in the chains: its link is the latest row of its slot, head has each slot's, and it is the latest now.
+#[inline(always)]
 pub fn link_row(rows: Rows, j: usize, head: &mut [u16], next: &mut [u16])
     requires j_lt_count { j < rows.count }
     requires chained { Chained (hashes rows) head.old next.old j }
@@ -71,6 +75,7 @@ pub fn link_row(rows: Rows, j: usize, head: &mut [u16], next: &mut [u16])
 }
 
 // Whether no two of the rows begin with the same words, with clear arrays. Where none do, the arrays have the chains of all.
+#[inline(always)]
 #[tactic(auto, using(crate::specs::Chain::all_fresh, crate::specs::Chain::one_stale, crate::specs::Chain::linked))]
 pub fn chain_rows(rows: Rows, head: &mut [u16], next: &mut [u16]) -> bool
     requires { Clear head.old next.old rows.count }
@@ -87,6 +92,7 @@ pub fn chain_rows(rows: Rows, head: &mut [u16], next: &mut [u16]) -> bool
 }
 
 // The same with arrays of its own, for so many rows at most.
+#[inline(always)]
 #[tactic(auto, using(crate::specs::Chain::clear))]
 fn apart_in<const ROWS: usize, const SLOTS: usize>(rows: Rows) -> bool
     requires count_bound { rows.count ≤ ROWS }
@@ -101,6 +107,7 @@ fn apart_in<const ROWS: usize, const SLOTS: usize>(rows: Rows) -> bool
 }
 
 // The same for few rows: at most 512.
+#[inline(always)]
 pub fn few_apart(rows: Rows) -> bool
     requires { rows.count ≤ 512 }
     ensures { result ≡ apart (alike rows.entry) rows.entry.count }

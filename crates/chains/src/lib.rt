@@ -42,6 +42,7 @@ fn mix(h: u64, w: u64) -> u64
 }
 
 // The hash of some words: the upper half, which every word has reached after one more mixing.
+#[inline(always)]
 #[tactic(auto, using(crate::specs::Words::hash_small), unfolding(crate::specs::Words::blend, crate::specs::Words::hash_words))]
 fn hash(words: &[u64]) -> usize
     ensures value { result ≡ hash_words words.now 0 (length words.now) }

@@ -2,7 +2,7 @@
 // The time is linear in the places: identifiers are told apart by chains, and the open values of all groups are summed in one pass.
 #![tactic(auto)]
 
-ghost use Rattle.std.specs.Prelude.{◌≡◌, true, ◌+◌, ◌≤◌, ◌<◌, length};
+ghost use Rattle.std.specs.Prelude.{◌≡◌, true, cond, Some, None, ◌+◌, ◌≤◌, ◌<◌, length};
 ghost use Rattle.laws.specs.Numbered.{every, apart};
 ghost use Rattle.books.specs.Layout.{groups, symbols, keys, room_of, groups_at, symbols_at, places_at};
 ghost use Rattle.books.specs.View.{head_in, rows_of};
@@ -110,15 +110,13 @@ fn hint_of(word: u64) -> usize
 }
 
 // The hints of some rows. Of rows that share a hint the last has it.
-fn hint_rows(rows: Rows) -> Hints
+fn hint_rows(rows: Rows, hints: &mut Hints)
     requires { rows.words ≡ 1 }
 {
-    let mut hints = [0; HINTS];
     for i in 0..rows.count {
         let word = rows.mem[rows.at + i * rows.width + FIRST];
         hints[hint_of(word)] = i as u16;
     }
-    hints
 }
 
 // The first row that begins with this word, where no two rows begin alike. The hint is tried first, and believed only where it is right.
@@ -231,25 +229,29 @@ impl Lists<'_> {
         }
     }
 
-    // The open values of each group, summed over the places, each of which is tried and its owner found. None where a place is not in range,
+    // The open values of each group, summed over the places, each of which is tried and its owner found. False where a place is not in range,
     // its owner not listed, or a sum above the ceiling.
     #[tactic(auto, using(crate::specs::Places::none_listed, crate::specs::Whole::unlisted, crate::specs::Whole::unfit, crate::specs::Whole::too_much, crate::specs::Whole::tallied))]
-    fn tally(self) -> Option<[Sides; books::MOST_GROUPS]>
-        ensures { Tallied self.entry.mem.now result }
+    fn tally(self, sums: &mut [Sides; books::MOST_GROUPS]) -> bool
+        requires { Sums (rows_of self.mem.now) sums.old 0 }
+        ensures { Tallied self.entry.mem.now (cond result (Some sums.new) None) }
     {
-        let mut desks = hint_rows(group_rows(self.mem));
-        let mut ids = hint_rows(symbol_rows(self.mem));
-        let mut sums = [Sides { buys: 0, sells: 0 }; books::MOST_GROUPS];
+        let mut desks = [0; HINTS];
+        let mut ids = [0; HINTS];
+        hint_rows(group_rows(self.mem), &mut desks);
+        hint_rows(symbol_rows(self.mem), &mut ids);
         for i in 0..self.mem[books::PLACES_TAKEN] as usize {
-            let k = self.desk_of(&mut desks, i)?;
+            let Some(k) = self.desk_of(&mut desks, i) else {
+                return false;
+            };
             if !self.place_ok(&mut ids, i) {
-                return None;
+                return false;
             }
-            if !self.add_value(i, k, &mut sums) {
-                return None;
+            if !self.add_value(i, k, sums) {
+                return false;
             }
         }
-        Some(sums)
+        true
     }
 
     // The open values that a group has stored.
@@ -277,11 +279,8 @@ impl Lists<'_> {
     fn table_ok(self) -> bool
         ensures { result ≡ table_ok self.entry.mem.now }
     {
-        // kept: tried, the proof didn't close: is_some_and, whose closure must ask for the sums as `sums_same` does
-        match self.tally() {
-            Some(sums) => self.sums_same(&sums),
-            None => false,
-        }
+        let mut sums = [Sides { buys: 0, sells: 0 }; books::MOST_GROUPS];
+        self.tally(&mut sums) && self.sums_same(&sums)
     }
 }
 
