@@ -93,12 +93,16 @@ pub fn write_answer(
 ) -> Result<usize, WriteError>
     ensures { left to.new result ≡ wrote 32 (answer_bytes line.now rec answer.outcome answer.number answer.sent) to.old }
 {
-    codec::write_whole::<ANSWER, _>(|buffer| put_answer(buffer, line, rec, answer), to)
+    let mut whole_line = [0u8; ANSWER];
+    let count = put_answer(&mut whole_line, line, rec, answer);
+    fields::hand_over(&whole_line, count, to)
 }
 
 // Writes a group's closing line, its MPID being given as a word.
 pub fn write_closing(totals: Totals, to: &mut [u8]) -> Result<usize, WriteError>
     ensures { left to.new result ≡ wrote 96 (closing_bytes totals.mpid totals.traded_buys totals.traded_sells totals.open_buys totals.open_sells totals.blocked) to.old }
 {
-    codec::write_whole::<CLOSING, _>(|buffer| put_closing(buffer, totals), to)
+    let mut whole_line = [0u8; CLOSING];
+    let count = put_closing(&mut whole_line, totals);
+    fields::hand_over(&whole_line, count, to)
 }

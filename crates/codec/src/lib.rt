@@ -1,11 +1,10 @@
 // The day's lines: each read into its record, and records, answers and closing lines written.
 #![tactic(auto)]
 
-ghost use Rattle.std.specs.Prelude.{◌≡◌, List, replicate, ℕ, ◌-◌, ◌^◌, ◌<◌, eqb, length};
-ghost use Rattle.std.specs.Fn.{FnOnceReturnsAtMut};
+ghost use Rattle.std.specs.Prelude.{◌≡◌, ◌-◌, eqb, length};
 ghost use Rattle.codec.specs.Readings.{letter_of, read_line, reading};
 ghost use Rattle.codec.specs.Writing.{fields_of, record_line};
-ghost use Rattle.fields.specs.Out.{out, cursor, Leaves, put_fields, put_line, left, handed, wrote};
+ghost use Rattle.fields.specs.Out.{out, cursor, Leaves, put_fields, put_line, left, wrote};
 
 use fields::{Parsed, Place, WriteError, Writer};
 
@@ -348,23 +347,11 @@ fn put_record(to: &mut [u8], line: &[u8], rec: Reading) -> usize
     writer.at
 }
 
-// Writes what `put` puts into a buffer of so many bytes, whole or not at all: it is put into memory of its own, and handed over from there.
-pub fn write_whole<const MOST: usize, F: FnOnce(&mut [u8]) -> usize>(
-    put: F,
-    to: &mut [u8],
-) -> Result<usize, WriteError>
-    requires small { MOST < 2 ^ 63 }
-    requires callable { F.IsAlwaysCallable put }
-    ensures { (d : List ℕ) × (n : ℕ) × FnOnceReturnsAtMut F.FnOnce put (replicate MOST 0) n d × (left to.new result ≡ handed d n to.old) }
-{
-    let mut bytes = [0u8; MOST];
-    let count = put(&mut bytes);
-    fields::hand_over(&bytes, count, to)
-}
-
 // Writes a record's line, from its reading and the line that its texts stand in.
 pub fn write_record(line: &[u8], rec: Reading, to: &mut [u8]) -> Result<usize, WriteError>
     ensures { left to.new result ≡ wrote 161 (record_line line.now rec) to.old }
 {
-    write_whole::<LINE, _>(|buffer| put_record(buffer, line, rec), to)
+    let mut whole_line = [0u8; LINE];
+    let count = put_record(&mut whole_line, line, rec);
+    fields::hand_over(&whole_line, count, to)
 }
