@@ -13,6 +13,10 @@ use Rattle.fields.proofs.field.Kinds as field-kinds
 use Rattle.fields.proofs.field.Reads as field-reads
 use Rattle.fields.proofs.part.Kinds as part-kinds
 use Rattle.fields.proofs.part.Reads as part-reads
+use Rattle.fields.proofs.Form.takes_byte.Kinds as form-takes-byte-kinds
+use Rattle.fields.proofs.Form.takes_byte.Reads as form-takes-byte-reads
+use Rattle.fields.proofs.Form.is_text.Kinds as form-is-text-kinds
+use Rattle.fields.proofs.Form.is_text.Reads as form-is-text-reads
 use Rattle.fields.proofs.takes_byte.Kinds as takes-byte-kinds
 use Rattle.fields.proofs.takes_byte.Reads as takes-byte-reads
 use Rattle.fields.proofs.is_text.Kinds as is-text-kinds
@@ -85,6 +89,12 @@ takes_byte_once κs a x y s t p q = p ∙ sym q
 
 is_text_once : Once 1 is-text-kinds.ps is-text-kinds.r is-text-reads.Post (λ κs x s. x)
 is_text_once κs a x y s t p q = p ∙ sym q
+
+form_takes_byte_once : Once 0 form-takes-byte-kinds.ps form-takes-byte-kinds.r form-takes-byte-reads.Post (λ κs x s. x)
+form_takes_byte_once κs a x y s t p q = p ∙ sym q
+
+form_is_text_once : Once 1 form-is-text-kinds.ps form-is-text-kinds.r form-is-text-reads.Post (λ κs x s. x)
+form_is_text_once κs a x y s t p q = p ∙ sym q
 
 identifier_at_once : Once 1 identifier-at-kinds.ps identifier-at-kinds.r identifier-at-reads.Post (λ κs x s. x)
 identifier_at_once κs a x y s t p q = p ∙ sym q

@@ -41,16 +41,25 @@ pub enum Form {
     YesNo,
 }
 
+// The forms' numbers.
+pub const IDENTIFIER: u8 = 0;
+
+pub const MPID: u8 = 1;
+
+pub const SIDE: u8 = 2;
+
+pub const YES_NO: u8 = 3;
+
 // A form by its number.
-// kept: what may not change (`is_text` and `takes_byte` took any number): so each number still means a form
+// kept: what may not change (`is_text` and `takes_byte` take any number): so each number means a form
 impl From<u8> for Form {
     ghost from_gives = { λ n f. f ≡ numbered n };
 
     fn from(number: u8) -> Form {
         match number {
-            0 => Form::Identifier,
-            1 => Form::Mpid,
-            2 => Form::Side,
+            IDENTIFIER => Form::Identifier,
+            MPID => Form::Mpid,
+            SIDE => Form::Side,
             _ => Form::YesNo,
         }
     }
@@ -151,31 +160,47 @@ pub fn part(line: &[u8], place: Place) -> &[u8]
     &line[from..to]
 }
 
-// Whether a form takes the byte.
-pub fn takes_byte(kind: Form, b: u8) -> bool
-    ensures { result ≡ takes (form kind) b }
-{
-    match kind {
-        Form::Identifier => b.is_ascii_graphic() && b != b'|',
-        Form::Mpid => b.is_ascii_digit() || b.is_ascii_uppercase(),
-        Form::Side => b == b'B' || b == b'S' || b == b'H' || b == b'E',
-        Form::YesNo => b == b'Y' || b == b'N',
+impl Form {
+    // Whether it takes the byte.
+    pub fn takes_byte(self, b: u8) -> bool
+        ensures { result ≡ takes (form self) b }
+    {
+        match self {
+            Form::Identifier => b.is_ascii_graphic() && b != b'|',
+            Form::Mpid => b.is_ascii_digit() || b.is_ascii_uppercase(),
+            Form::Side => b == b'B' || b == b'S' || b == b'H' || b == b'E',
+            Form::YesNo => b == b'Y' || b == b'N',
+        }
+    }
+
+    fn takes_all(self, f: &[u8]) -> bool
+        ensures { result ≡ every (takes (form self)) f.now }
+    {
+        f.iter().all(|b| self.takes_byte(*b))
+    }
+
+    // Whether bytes are a text of so many bytes, each of which it takes.
+    #[tactic(auto, unfolding(crate::specs::Parts::has_form))]
+    pub fn is_text(self, f: &[u8], least: usize, most: usize) -> bool
+        ensures { result ≡ has_form (text least most (takes (form self)) unnamed) f.now }
+    {
+        least <= f.len() && f.len() <= most && self.takes_all(f)
     }
 }
 
-fn takes_all(kind: Form, f: &[u8]) -> bool
-    ensures { result ≡ every (takes (form kind)) f.now }
+// Whether the form of this number takes the byte; a number above 3 is as 3.
+pub fn takes_byte(kind: u8, b: u8) -> bool
+    ensures { result ≡ takes (form (numbered kind)) b }
 {
-    f.iter().all(|b| takes_byte(kind, *b))
+    Form::from(kind).takes_byte(b)
 }
 
-// Whether bytes are a text of so many bytes, each of which the form takes.
-// kept: what may not change (docs/PROMISES.md has `is_text` for every least and most)
-#[tactic(auto, unfolding(crate::specs::Parts::has_form))]
-pub fn is_text(f: &[u8], kind: Form, least: usize, most: usize) -> bool
-    ensures { result ≡ has_form (text least most (takes (form kind)) unnamed) f.now }
+// Whether bytes are a text of so many bytes, each of which the form of this number takes.
+// kept: what may not change (docs/PROMISES.md has `is_text` for every number, least and most)
+pub fn is_text(f: &[u8], kind: u8, least: usize, most: usize) -> bool
+    ensures { result ≡ has_form (text least most (takes (form (numbered kind))) unnamed) f.now }
 {
-    least <= f.len() && f.len() <= most && takes_all(kind, f)
+    Form::from(kind).is_text(f, least, most)
 }
 
 // Where a field that follows a place ends; past the line where it has not its form.
@@ -198,7 +223,7 @@ fn text_at(line: &[u8], at: usize, kind: Form, least: usize, most: usize) -> Pla
     ensures { result ≡ text_at (text least most (takes (form kind)) unnamed) line.now at }
 {
     let f = field(line, at);
-    let in_form = is_text(f, kind, least, most);
+    let in_form = kind.is_text(f, least, most);
     let to = field_end(line, at, f, in_form);
     let from = if in_form { at + 1 } else { 0 };
     Place { from, to }
@@ -212,7 +237,7 @@ fn letter_at(line: &[u8], at: usize, kind: Form) -> Letter
 {
     let f = field(line, at);
     let value = byte_at(f, 0);
-    let in_form = is_text(f, kind, 1, 1);
+    let in_form = kind.is_text(f, 1, 1);
     Parsed {
         value,
         to: field_end(line, at, f, in_form),

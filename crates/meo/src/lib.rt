@@ -142,13 +142,13 @@ pub fn order_of(rec: Reading) -> NewOrder
 fn is_name(line: &[u8], at: Place) -> bool
     ensures { result ≡ has_form (identifier unnamed) (said line.now at) }
 {
-    fields::is_text(fields::part(line, at), Form::Identifier, 1, 20)
+    Form::Identifier.is_text(fields::part(line, at), 1, 20)
 }
 
 fn is_mpid(line: &[u8], at: Place) -> bool
     ensures { result ≡ has_form (mpid unlisted) (said line.now at) }
 {
-    fields::is_text(fields::part(line, at), Form::Mpid, 4, 4)
+    Form::Mpid.is_text(fields::part(line, at), 4, 4)
 }
 
 // Whether each field has document 01's form for it.
@@ -159,7 +159,7 @@ fn is_order(line: &[u8], n: NewOrder) -> bool
     is_name(line, n.name)
         && is_mpid(line, n.mpid)
         && packing::in_range(1, 4_294_967_295, n.symbol)
-        && fields::takes_byte(Form::Side, n.side)
+        && Form::Side.takes_byte(n.side)
         && packing::in_range(1, 1_000_000, n.size)
         && packing::in_range(1, 999_999_999_999, n.price)
 }

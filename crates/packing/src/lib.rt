@@ -159,7 +159,7 @@ pub fn is_mpid(w: u64) -> bool
     ensures { result ≡ fits (mpid (record { code = w })) }
 {
     match u32::try_from(w) {
-        Ok(word) => fields::is_text(&word.to_le_bytes(), Form::Mpid, 4, 4),
+        Ok(word) => Form::Mpid.is_text(&word.to_le_bytes(), 4, 4),
         Err(_) => false,
     }
 }
@@ -178,7 +178,7 @@ pub fn is_side(c: u64) -> bool
     ensures { result ≡ fits (letter (bytes "BSHE") c) }
 {
     match u8::try_from(c) {
-        Ok(b) => fields::takes_byte(Form::Side, b),
+        Ok(b) => Form::Side.takes_byte(b),
         Err(_) => false,
     }
 }
