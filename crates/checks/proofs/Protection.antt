@@ -1,8 +1,9 @@
 -- Document 01, "Price protection takes its row by the order's own price": the code's table of six rows. Its bounds are tested once to
 -- ascend, so a row takes the prices from the bound before its own up to its own.
-use Rattle.std.specs.Prelude.{◌≡◌, refl, true, cond, List, [], ◌∷◌, ◌++◌, map, ℕ, zero, suc, ◌≤◌, ◌<◌, ltb, length}
-use Rattle.std.proofs.Common.{sym, ap, ◌∙◌, arith, ltb-true, ltb-false, lt-ltb, le-ltb}
+use Rattle.std.specs.Prelude.{◌≡◌, refl, true, cond, List, [], ◌∷◌, ◌++◌, map, ℕ, zero, suc, ◌+◌, ◌≤◌, ◌<◌, ltb, length}
+use Rattle.std.proofs.Common.{sym, ap, subst, ◌∙◌, arith, add-one, ltb-true, ltb-false, lt-ltb, le-ltb}
 use Rattle.std.proofs.Math.Bool.{and-eq-true_iff}
+use Rattle.std.proofs.Math.Decide.{dec_lt}
 use Rattle.std.specs.List.{find}
 use Rattle.std.specs.Option.{unwrap_or}
 use Rattle.std.specs.Prelude.{Option, Some, None}
@@ -45,6 +46,13 @@ row_taken (a ∷ l) e p (suc i) h s b = rw (le-ltb p a.bound (reached i h s)) (r
     rest : (i : ℕ) → start (a ∷ l) (suc i) ≤ p → start l i ≤ p
     rest zero s = omega arith
     rest (suc i) s = s
+
+-- a price that is not below a row's bound is among the prices of a later one
+pub row_later : (p i : ℕ) → p ≤ 999_999_999_999 → i < 6 → (row_at table i).bound ≤ p → (i + 1 < 6) × (start table (i + 1) ≤ p)
+row_later p i most h b = (elim (dec_lt i 5) [ yes lt ↦ omega arith | no ge ↦ absurd (last (omega arith)) ], rw add-one b)
+  where
+    last : i ≡ 5 → ⊥
+    last e = let q : (row_at table 5).bound ≤ p = subst (λ (i : ℕ). (row_at table i).bound ≤ p) e b in omega arith
 
 -- "otherwise" is a row whose bound no price reaches
 otherwise_last : (p b : ℕ) (l : List Row) → terms (row_in p (l ++ (row b 3 25_000_000 ∷ []))) ≡ terms (row_in p l)

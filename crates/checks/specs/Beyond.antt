@@ -1,8 +1,10 @@
 -- Document 01, "Price protection": a price that is too far beyond its quote, by the row that the code took. Nothing is rounded: what is at
 -- least the percentage and at least the dollar part is at least the greater of the two.
-use Rattle.std.specs.Prelude.{◌≡◌, refl, Bool, true, false, ◌&&◌, cond, List, [], ◌∷◌, ℕ, ◌-◌, ◌≤◌, leb, ltb}
-use Rattle.std.proofs.Common.{ap, ◌∙◌, leb-true}
+use Rattle.std.specs.Prelude.{◌≡◌, refl, Bool, true, false, ◌&&◌, cond, List, [], ◌∷◌, ℕ, ◌*◌, ◌-◌, ◌≤◌, ◌<◌, max, leb, ltb}
+use Rattle.std.proofs.Common.{sym, ap, ◌∙◌, arith, leb-true, le-leb, ne_eqb}
 use Rattle.std.proofs.Math.Bool.{and-eq-true_iff}
+use Rattle.std.proofs.Math.Decide.{dec_le}
+use Rattle.std.proofs.lemmas.Bool.{lt-leb}
 use Rattle.laws.specs.Tests.{on, split}
 use Rattle.laws.specs.Tables.{All}
 use Rattle.rulebook.specs.Lines.{Side, is_buy}
@@ -34,9 +36,26 @@ terms_small p w e =
     let b = (and-eq-true_iff (leb w.percent 10) (leb w.dollars 25_000_000)).0 s in
     (leb-true w.percent 10 b.0, leb-true w.dollars 25_000_000 b.1)
 
--- with no quote known nothing is too far
+-- too far goes by the terms alone; with no quote known nothing is
+too_far_terms : (r : Row) (quote far : ℕ) → too_far (terms r) quote far ≡ too_far r quote far
+too_far_terms (row below c d) quote far = refl
+
 pub none_known : (r : Row) (quote far : ℕ) → quote ≡ 0 → false ≡ too_far r quote far
 none_known (row below c d) quote far e = rw e refl
+
+-- and with one known, what reaches the percentage and the dollar part both
+module _ (w : RowWords) (r : Row) (quote far : ℕ) (e : terms (row_said w) ≡ terms r) (known : quote ≡ 0 → ⊥) where
+  held : leb (max (w.percent * quote) (100 * w.dollars)) (100 * far) ≡ too_far r quote far
+  held = rw (← too_far_terms r quote far, ← e, ne_eqb quote 0 known) refl
+
+  pub within_percent : 100 * far < w.percent * quote → false ≡ too_far r quote far
+  within_percent h = sym (lt-leb (max (w.percent * quote) (100 * w.dollars)) (100 * far) (omega arith)) ∙ held
+
+  pub by_dollars : w.percent * quote ≤ 100 * far → leb (100 * w.dollars) (100 * far) ≡ too_far r quote far
+  by_dollars h = same (w.percent * quote) (100 * w.dollars) (100 * far) h ∙ held
+    where
+      same : (a b n : ℕ) → a ≤ n → leb b n ≡ leb (max a b) n
+      same a b n h = elim (dec_le b n) [ yes le ↦ le-leb b n le ∙ sym (le-leb (max a b) n (omega arith)) | no gt ↦ lt-leb b n (omega arith) ∙ sym (lt-leb (max a b) n (omega arith)) ]
 
 -- of a symbol that has neither bid nor offer
 pub none_quoted : (x : Side) (price : ℕ) → false ≡ off_market x price 0 0

@@ -1,8 +1,10 @@
 -- Document 01, "Side: B buy, S sell, H sell short, E sell short exempt": what a side's letter says.
-use Rattle.std.specs.Prelude.{◌≡◌, refl, Bool, true, false, not, ◌&&◌, cond, ℕ, eqb}
+use Rattle.std.specs.Prelude.{◌≡◌, refl, Bool, true, false, not, ◌&&◌, cond, ℕ, zero, suc, eqb}
+use Rattle.std.proofs.Common.{sym, ap, ◌∙◌, arith, ne_eqb, lt-ltb}
 use Prim.Native.Char.{code}
 use Rattle.rulebook.specs.Lines.{Side, buy, sell, short, exempt, is_short}
 use Rattle.fields.specs.Series.{side_of}
+use Rattle.books.specs.View.{flag}
 
 -- the side that the tests of a letter say
 abbrev side_by : Bool → Bool → Bool → Side
@@ -17,3 +19,8 @@ short_letter c = by (eqb c (code "B")) (eqb c (code "S")) (eqb c (code "H"))
     by false true h = refl
     by false false true = refl
     by false false false = refl
+
+-- a mark that is 0 is not set
+pub unmarked : (n : ℕ) → eqb n 0 ≡ not (flag n)
+unmarked zero = refl
+unmarked (suc n) = ne_eqb (suc n) 0 (λ e. omega arith) ∙ ap not (sym (lt-ltb 0 (suc n) (omega arith)))

@@ -1,6 +1,6 @@
 -- What stands around a field: the tab before it, the tab or LF after it, and that it lies within the line.
 use Rattle.std.specs.Prelude.{◌≡◌, refl, Bool, true, false, ◌&&◌, List, [], ◌∷◌, ◌++◌, ℕ, suc, ◌+◌, ◌-◌, ◌<◌, ◌≤◌, length, take, drop, get_or, eqb}
-use Rattle.std.proofs.Common.{sym, ◌∙◌, subst, ⊎_elim, arith, add-one, length-take, take-append-drop, drop-cons, drop-drop, le-leb, leb-true, ne_eqb, eqb-true}
+use Rattle.std.proofs.Common.{sym, ◌∙◌, subst, ⊎_elim, arith, add-one, length-drop, length-take, take-append-drop, drop-cons, drop-drop, le-leb, leb-true, ne_eqb, eqb-true}
 use Rattle.std.proofs.Math.Bool.{and-eq-true_iff, and-true}
 use Rattle.std.proofs.lemmas.Bool.{lt-leb}
 use Rattle.std.proofs.Math.ListN.{get_or-eq_default}
@@ -40,6 +40,9 @@ field_is l at x = let k : at + 1 + span (drop (at + 1) l) - (at + 1) ≡ span (d
 
 pub field_length : (l : List ℕ) (at : ℕ) → get_or l at 0 ≡ 9 → length (field_at l at) ≡ span (drop (at + 1) l)
 field_length l at x = rw (field_is l at x, length-take) (omega (arith, span_le (drop (at + 1) l)))
+
+pub field_in : (l : List ℕ) (at : ℕ) → get_or l at 0 ≡ 9 → at + 1 + length (field_at l at) ≤ length l
+field_in l at x = omega (arith, in_line l at x, field_length l at x, span_le (drop (at + 1) l), length-drop (at + 1) l)
 
 -- a field is the stretch that its reader says
 pub field_stretch : (l : List ℕ) (at : ℕ) → get_or l at 0 ≡ 9 → stretch l (at + 1) (at + 1 + length (field_at l at)) ≡ field_at l at

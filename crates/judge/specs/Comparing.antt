@@ -1,13 +1,14 @@
 -- Document 01, "Requests and identifiers": a request whose key a place has, compared with the remembered one "in kind and every field".
 -- A taken place's words are those that its request would be written with, and no two requests have the same words.
 use Rattle.std.specs.Prelude.{◌≡◌, refl, Bool, true, false, ◌&&◌, cond, List, [], ◌∷◌, ℕ, ◌<◌, eqb, get_or}
-use Rattle.std.proofs.Common.{sym, ap, ap₂, ◌∙◌, subst, arith, eq-eqb, eqb-true}
+use Rattle.std.proofs.Common.{sym, ap, ap₂, ◌∙◌, subst, arith, eq-eqb, ne_eqb, eqb-true}
 use Rattle.std.proofs.Math.Bool.{decide}
+use Prim.Native.Char.{code}
 use Rattle.std.proofs.Props.{props}
 use Rattle.std.specs.Coded.{Unit-prop}
 use Rattle.std.proofs.Math.Decide.{ℕ_discrete}
 use Rattle.laws.specs.Tests.{on, Exact, exact_by, exact_discrete, decide_exact}
-use Rattle.laws.specs.Checks.{all_hold, rules_read, rules_met}
+use Rattle.laws.specs.Checks.{all_hold, rules_read, rules_met, stop, pass, last_call}
 use Rattle.laws.specs.Rows.{Sheet, patch}
 use Rattle.rulebook.specs.Names.{Key, same_ident, same_key, ident_exact, key_exact}
 use Rattle.rulebook.specs.Lines.{side_letter, Side-discrete, Deal, Deal-discrete, Request, same_request}
@@ -75,6 +76,19 @@ words_same x y = eqb x.kind y.kind ∷ eqb x.sym y.sym ∷ eqb x.side y.side ∷
 
 unfoldable pub same_said : Said → Said → Bool
 same_said x y = all_hold (words_same x y)
+
+-- an N's words, where its side's letter is a side's
+pub new_asking : (d : DealWords) (s x z p : ℕ) → d ≡ DealWords.New s x z p → Sided d → record { kind = code "N"; target = record { head = 0; middle = 0; tail = 0 }; sym = s; side = x; size = z; price = p } ≡ asking_words (deal_said d)
+new_asking d s x z p e h = ap (λ (c : ℕ). record { kind = code "N"; target = record { head = 0; middle = 0; tail = 0 }; sym = s; side = c; size = z; price = p }) (sym (subst Sided e h)) ∙ sym (ap (λ d. asking_words (deal_said d)) e)
+
+-- ── words tried one after the other ──
+pub stop_other : (a b : ℕ) (bs : List Bool) → (a ≡ b → ⊥) → ◌≡◌ {A = Bool} false (all_hold (eqb a b ∷ bs))
+stop_other a b bs h = stop (eqb a b) bs (ne_eqb a b h)
+
+pub pass_same : (a b : ℕ) (x : Bool) (bs : List Bool) → a ≡ b → x ≡ all_hold bs → x ≡ all_hold (eqb a b ∷ bs)
+pass_same a b x bs h k = pass (eqb a b) x bs (eq-eqb a b h) k
+
+pub ruleset words_tried = (stop_other, pass_same, last_call)
 
 -- ── the words are the same exactly if the requests are ──
 said_exact : Exact same_said

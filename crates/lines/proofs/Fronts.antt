@@ -1,6 +1,7 @@
 -- The bytes that are held, where they stand in the text.
-use Rattle.std.specs.Prelude.{◌≡◌, refl, List, [], ◌∷◌, ℕ, zero, suc, ◌+◌, ◌-◌, ◌≤◌, length, take, drop}
-use Rattle.std.proofs.Common.{ap, arith, length-take, length-drop}
+use Rattle.std.specs.Prelude.{◌≡◌, refl, List, [], ◌∷◌, ◌++◌, ℕ, zero, suc, ◌+◌, ◌-◌, ◌≤◌, length, take, drop}
+use Rattle.std.proofs.Common.{ap, arith, length-append, length-take, length-drop}
+use Rattle.std.proofs.Math.Seq.{length-take-le}
 use Rattle.fields.specs.Parts.{stretch}
 use Rattle.lines.specs.Splitting.{lent}
 
@@ -25,3 +26,14 @@ module _ (t : List ℕ) (from to : ℕ) where
 
   pub front_few : length front ≤ 161
   front_few = omega (arith, length-take 161 (stretch t from to))
+
+  -- the text once i bytes are moved
+  unfoldable pub moved : ℕ → List ℕ
+  moved i = take i front ++ drop i t
+
+  pub moved_length : (i : ℕ) → i ≤ length front → length (moved i) ≡ length t
+  unfolding moved stretch
+  moved_length i h =
+      let n = length-take 161 (stretch t from to) in
+      let m = length-take (to - from) (drop from t) in
+      rw (length-append, length-take-le i front h, length-drop) (omega (arith, n, m, length-drop from t))

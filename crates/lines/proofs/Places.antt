@@ -1,12 +1,39 @@
 -- Lines by their places in a text: the next line from a place, and what is left where there is none.
-use Rattle.std.specs.Prelude.{◌≡◌, refl, cond, not, ◌⊎◌, false, ℕ, zero, suc, ◌+◌, ◌≤◌, max, eqb, ltb, length, take, drop, Option, Some, None}
-use Rattle.std.proofs.Common.{sym, ap, subst, ◌∙◌, inl, inr, ⊎_elim, arith, length-append, length-take, length-drop, drop-drop}
+use Rattle.std.specs.Prelude.{◌≡◌, refl, cond, not, ◌⊎◌, false, ℕ, zero, suc, ◌+◌, ◌-◌, ◌≤◌, ◌<◌, max, eqb, ltb, length, take, drop, get_or, Option, Some, None}
+use Rattle.std.proofs.Common.{sym, ap, subst, ◌∙◌, inl, inr, ⊎_elim, add-one, arith, length-append, length-take, length-drop, drop-cons, drop-drop, take-suc, get_or-drop}
 use mathlib.Core.List.{List, [], ◌∷◌, ◌++◌, flatten, append-nil, append_assoc}
-use borrow.Author.Tests.{lt-ltb, le-ltb}
+use borrow.Author.Tests.{eq-eqb, ne_eqb, lt-ltb, le-ltb}
 use Rattle.std.specs.List.{position_or_len}
 use Rattle.laws.specs.Tests.{on}
+use Rattle.fields.specs.Parts.{stretch}
 use Rattle.fields.specs.Numbers.{below}
 use Rattle.lines.specs.Splitting.{whole, rest, first, line_at}
+
+-- ── the stretch that is searched ──
+pub stretch_none : (t : List ℕ) (at : ℕ) → stretch t at at ≡ []
+unfolding stretch
+stretch_none t at = let z : at - at ≡ 0 = omega arith in rw z
+
+pub stretch_more : (t : List ℕ) (at end : ℕ) → at ≤ end → end < length t → stretch t at (end + 1) ≡ stretch t at end ++ (get_or t end 0 ∷ [])
+unfolding stretch
+stretch_more t at end le lt =
+    let n : end + 1 - at ≡ suc (end - at) = omega arith in
+    let m : at + (end - at) ≡ end = omega arith in
+    rw (n, take-suc (drop at t) (end - at) 0 (rw length-drop (omega arith)), get_or-drop, m)
+
+pub length_stretch : (t : List ℕ) (from to : ℕ) → to ≤ length t → length (stretch t from to) ≡ to - from
+unfolding stretch
+length_stretch t from to h = rw (length-take, length-drop) (omega arith)
+
+module _ (t : List ℕ) (at end : ℕ) (le : at ≤ end) (lt : end < length t) where
+  -- a byte other than LF is held, and an LF ends the line
+  pub line_goes_on : (get_or t end 0 ≡ 10 → ⊥) → whole (stretch t at end) (drop end t) ≡ whole (stretch t at (end + 1)) (drop (end + 1) t)
+  unfolding whole
+  line_goes_on ne = rw (drop-cons t end 0 lt, ne_eqb (get_or t end 0) 10 ne, stretch_more t at end le lt, add-one)
+
+  pub line_ends : get_or t end 0 ≡ 10 → first (whole (stretch t at end) (drop end t)) ≡ stretch t at (end + 1)
+  unfolding whole
+  line_ends e = rw (drop-cons t end 0 lt, eq-eqb (get_or t end 0) 10 e, stretch_more t at end le lt)
 
 -- ── the line up to the first LF ──
 -- how many bytes stand before the first LF, or the end
@@ -104,7 +131,16 @@ pub step_none : (t : List ℕ) (at : ℕ) → length (line_at t at) ≡ 0 → (w
 unfolding line_at
 step_none t at z = no_line (drop at t) z
 
--- a line ends in the text
+-- a line is the stretch up to where it ends
+pub line_stretch : (t : List ℕ) (at : ℕ) → stretch t at (at + length (line_at t at)) ≡ line_at t at
+unfolding line_at stretch
+line_stretch t at =
+    let u = drop at t in
+    let n = length (first (whole [] u)) in
+    let m : at + n - at ≡ n = omega arith in
+    ⊎_elim (λ w. rw (m, w.0)) (λ w. rw (m, first_is u w.0 w.1) (sym (ap first w.1.line))) (next_line [] u)
+
+-- and ends in the text
 pub line_within : (t : List ℕ) (at : ℕ) → at + length (line_at t at) ≤ max at (length t)
 unfolding line_at
 line_within t at =

@@ -1,8 +1,8 @@
 -- Document 01, "What is kept", "The net keeps its sign": what the sign and the size of a net say, at 0 and at the ceiling too.
-use Rattle.std.specs.Prelude.{◌≡◌, refl, true, cond, ◌↔◌, ℕ, zero, suc, ◌+◌, ◌-◌, ◌≤◌, ◌<◌, ◌^◌, ltb, ℤ, pos, negsuc, ◌+ℤ◌, neg_ℤ, nat_abs}
+use Rattle.std.specs.Prelude.{◌≡◌, refl, true, false, cond, ◌↔◌, ℕ, zero, suc, ◌+◌, ◌-◌, ◌≤◌, ◌<◌, ◌^◌, ltb, T, ℤ, pos, negsuc, ◌+ℤ◌, ◌-ℤ◌, neg_ℤ, nat_abs}
 use Rattle.std.proofs.Common.{sym, ap, ◌∙◌, subst, arith, SFits, ltb-true, ltb-false}
-use Rattle.std.proofs.Math.IntN.{+ℤ_comm, neg_ℤ-neg_ℤ, neg_ℤ-+ℤ}
-use Rattle.std.specs.Int.Signed.{mag, lt_z}
+use Rattle.std.proofs.Math.IntN.{+ℤ_idl, +ℤ_comm, neg_ℤ-neg_ℤ, neg_ℤ-+ℤ}
+use Rattle.std.specs.Int.Signed.{mag, lt_z, non_neg}
 use Rattle.std.specs.Int.{w64}
 use Rattle.laws.specs.Tests.{on}
 use Rattle.rulebook.specs.Lines.{ceiling}
@@ -51,3 +51,20 @@ size_fits z h = record { sfits = omega (arith, mag_size z) }
 
 pub net_fits : (b s : ℕ) → b < 2 ^ 63 → s < 2 ^ 63 → SFits w64 (net b s)
 net_fits b s h k = size_fits (net b s) (omega (arith, net_apart b s))
+
+-- a number taken from 0 has the same size, and is not minus where it was
+pub size_turned : (z : ℤ) → nat_abs (pos 0 -ℤ z) ≡ nat_abs z
+size_turned z = ap nat_abs (+ℤ_idl (neg_ℤ z)) ∙ turned z
+  where
+    turned : (z : ℤ) → nat_abs (neg_ℤ z) ≡ nat_abs z
+    turned (pos zero) = refl
+    turned (pos (suc n)) = refl
+    turned (negsuc n) = refl
+
+pub minus_turned : (z : ℤ) → lt_z z (pos 0) ≡ true → T (non_neg (pos 0 -ℤ z))
+minus_turned (pos n) e = let h : n < 0 = ltb-true n 0 e in absurd (omega arith)
+minus_turned (negsuc n) e = tt
+
+pub not_minus : (z : ℤ) → lt_z z (pos 0) ≡ false → T (non_neg z)
+not_minus (pos n) e = tt
+not_minus (negsuc n) e = subst T e tt

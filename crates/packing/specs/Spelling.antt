@@ -53,6 +53,17 @@ word_spelt zero w h = omega arith
 word_spelt (suc n) w h = on (λ b. eqb w 0 ≡ b → word (cond b [] (w % 256 ∷ spelt n (w / 256))) ≡ w) (eqb w 0) (λ e q. omega (arith, eqb-true w 0 q))
     (λ e q. let p = pow-succ' 256 n in omega (arith, word_spelt n (w / 256) (omega arith))) refl
 
+-- room for a byte more than a word has adds none
+spelt_room : (n w : ℕ) → w < 256 ^ n → spelt (suc n) w ≡ spelt n w
+unfolding spelt
+spelt_room zero w h = rw (eq-eqb w 0 (omega arith))
+spelt_room (suc n) w h = let p = pow-succ' 256 n in rw (spelt_room n (w / 256) (omega arith))
+
+-- so a word's bytes are its lowest and those of the rest
+pub spelt_next : (n w : ℕ) → w < 256 ^ suc n → (w ≡ 0 → ⊥) → spelt (suc n) w ≡ w % 256 ∷ spelt (suc n) (w / 256)
+unfolding spelt
+spelt_next n w h z = let p = pow-succ' 256 n in rw (ne_eqb w 0 z) (ap (λ l. w % 256 ∷ l) (sym (spelt_room n (w / 256) (omega arith))))
+
 -- the word of so many bytes is above a power of 256, and of no more is below
 pub word_more : (n : ℕ) (cs : List ℕ) → All Solid cs → n < length cs → length cs ≤ 8 → 256 ^ n ≤ word cs
 word_more n cs a l m = ⊎_elim (λ b. absurd (omega (arith, spelt_most n 8 (word cs) b, ap length (spelt_word 8 cs a m)))) (λ b. b) (below (word cs) (256 ^ n))

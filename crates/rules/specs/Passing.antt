@@ -3,7 +3,7 @@ use Rattle.std.specs.Prelude.{◌≡◌, refl, Bool, true, false, ◌||◌, cond
 use Rattle.std.proofs.Common.{subst, arith, lt-ltb, le-ltb, leb-true, le-leb}
 use Prim.Native.Char.{code}
 use Rattle.laws.specs.Numbered.{every, every_each, every_yes}
-use Rattle.laws.specs.Checks.{all_hold, last_call}
+use Rattle.laws.specs.Checks.{all_hold, last_call, stop_call, pass_call, stop_most, pass_most}
 use Rattle.laws.specs.Rows.{Row}
 use Rattle.rulebook.specs.Names.{bytes, Ident}
 use Rattle.rulebook.specs.Lines.{ceiling, from_to, letter, identifier, mpid}
@@ -100,6 +100,10 @@ early_open n b h = last_call true (cond (flag n) true b) (rw (lt-ltb 0 n h) refl
 pub early_shut : (opened : ℕ) (x b : Bool) → opened ≤ 0 → x ≡ b → x ≡ all_hold (early opened b ∷ [])
 unfolding early
 early_shut n x b h e = last_call x (cond (flag n) true b) (rw (le-ltb 0 n h) e)
+
+pub ruleset head_tried = (stop_most, pass_most, early_open, early_shut, arith)
+
+pub ruleset totals_tried = (stop_call, pass_call, stop_most, pass_most, early_open, early_shut, arith)
 
 -- a word that was tried
 pub word_within : (m : List ℕ) (b from n most : ℕ) → words_within m (b + from) n most ≡ true → (k : ℕ) → from ≤ k → k < from + n → word_at m b k ≤ most

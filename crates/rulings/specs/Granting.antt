@@ -81,14 +81,14 @@ module _ (m : List ℕ) (g i : ℕ) (h : Held m g i) where
       λ j. OrderShift.Puts (sym h.again j) (figure_words (e j)) (at j) (buys j) (sells j)
 
   -- and nothing else of its group
-  amended : (f : Figures) (new : FigureWords) (t : TallyWords) → figures_said new ≡ f → tally_said t ≡ tally_after S g o f →
+  pub amended : (f : Figures) (new : FigureWords) (t : TallyWords) → figures_said new ≡ f → tally_said t ≡ tally_after S g o f →
       amended_with g i new t GroupShift.Stay ≡ deed_in_rows S (deed (puts (with_figures o f)) stay stay)
   unfolding deed_in_rows
   amended f new t e q = λ j. record { order = puts_words f new t e (ap (λ (t : Tally). t.ob) q) (ap (λ (t : Tally). t.os) q) j; group = GroupShift.Stay; symbol = SymbolShift.Stay }
 
   -- or its traded values and its block, tested: H is the group with what was traded
   module _ (H : Group) (named : H.mpid ≡ desk.mpid) (terms : H.terms ≡ desk.terms) (blocked : H.blocked ≡ desk.blocked) where
-    booked : (f : Figures) (new : FigureWords) (t : TallyWords) → figures_said new ≡ f → tally_said t ≡ tally H (after f) →
+    pub booked : (f : Figures) (new : FigureWords) (t : TallyWords) → figures_said new ≡ f → tally_said t ≡ tally H (after f) →
         amended_with g i new t (marked_with g (tested desk (tally_said t)).blocked t) ≡ deed_in_rows S (deed (puts (with_figures o f)) (puts (tested H (tally H (after f)))) stay)
     unfolding deed_in_rows
     booked f new t e q =
@@ -232,7 +232,7 @@ module _ (m : List ℕ) (k : Key) where
   abbrev taken : ℕ
   taken = head_in (rows_of m) places_at
 
-  target_there : (f : Order → judging.Ruling) → at < taken → found 9 (look by_key k (view m).ledger.orders) f ≡ f (order_of (rows_of m) at)
+  pub target_there : (f : Order → judging.Ruling) → at < taken → found 9 (look by_key k (view m).ledger.orders) f ≡ f (order_of (rows_of m) at)
   unfolding Option-elim
   target_there f h = ap (λ o. found 9 o f) (order_looked m k ∙ row_there (order_of (rows_of m)) at taken h)
 

@@ -81,13 +81,13 @@ module _ (S : Sheet) (room : ℕ) (k : Key) where
   unfolding order_index
   order_none h = sym (least_none holds np h)
 
-  order_here : (i : ℕ) → At i ≡ found_place S room k → opens_of S i ≡ true → i ≡ order_index S k
+  pub order_here : (i : ℕ) → At i ≡ found_place S room k → opens_of S i ≡ true → i ≡ order_index S k
   unfolding order_index
   order_here i e o = let w = found_here i e in let l = first_place in
       sym (least_at holds np i w.0 (λ j lt. second_fails (opens_of S j) (l.before j (omega (arith, w.1)))) (two o (subst (λ i. has_key i ≡ true) (sym w.1) (l.here (omega (arith, w))))))
 
   -- a place that is no passed N
-  order_closed : apart (same_place S) np ≡ true → (i : ℕ) → At i ≡ found_place S room k → opens_of S i ≡ false → np ≡ order_index S k
+  pub order_closed : apart (same_place S) np ≡ true → (i : ℕ) → At i ≡ found_place S room k → opens_of S i ≡ false → np ≡ order_index S k
   order_closed alone i e o = let w = found_here i e in let l = first_place in
       order_none (λ j lt. elim (dec_lt j i) [
         | yes p ↦ second_fails (opens_of S j) (l.before j (omega (arith, w.1)))
@@ -97,11 +97,11 @@ module _ (S : Sheet) (room : ℕ) (k : Key) where
             (apart_each (same_place S) np alone i j (omega (arith, n, eqb-false i j q)) lt))) refl
       ])
 
-  order_free : (j : ℕ) → Free j ≡ found_place S room k → np ≡ order_index S k
+  pub order_free : (j : ℕ) → Free j ≡ found_place S room k → np ≡ order_index S k
   unfolding found_place
   order_free j e = order_none (found_none (λ q. false≢true (ap is_at (e ∙ ap (λ b. cond b (At (place_index S k)) (cond (ltb np room) (Free np) Full)) q))))
 
-  order_full : Full ≡ found_place S room k → np ≡ order_index S k
+  pub order_full : Full ≡ found_place S room k → np ≡ order_index S k
   unfolding found_place
   order_full e = order_none (found_none (λ q. false≢true (ap is_at (e ∙ ap (λ b. cond b (At (place_index S k)) (cond (ltb np room) (Free np) Full)) q))))
 

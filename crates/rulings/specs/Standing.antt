@@ -1,5 +1,5 @@
 -- What judging may rely on: a memory that meets the state rules, a desk that is listed, sizes and prices in their forms.
-use Rattle.std.specs.Prelude.{◌≡◌, refl, Bool, true, List, ℕ, ◌*◌, ◌≤◌, ◌<◌, ltb}
+use Rattle.std.specs.Prelude.{◌≡◌, refl, Bool, true, List, ℕ, ◌+◌, ◌*◌, ◌≤◌, ◌<◌, ltb, length}
 use Rattle.std.proofs.Math.Path.{sym, ap, subst}
 use Rattle.std.proofs.Common.{◌∙◌, arith, ltb-true}
 use Rattle.std.proofs.Math.Bool.{cond}
@@ -15,10 +15,11 @@ use Rattle.rulebook.specs.Lines.{ceiling, is_buy}
 use Rattle.rulebook.specs.Kept.{Figures, Order, by_mpid, by_key, with_figures, worked, open_value, Tally, tally, metrics}
 use Rattle.rulebook.specs.Judging.{quotes}
 use Rattle.rulebook.specs.Rules.{FitsSymbol, SoundOrder}
-use Rattle.books.specs.Layout.{groups, groups_at, symbols_at, places_at, traded_buys_at, traded_sells_at}
+use Rattle.books.specs.Layout.{groups, requests, room_of, request_start, width_of, groups_at, symbols_at, places_at, traded_buys_at, traded_sells_at}
 use Rattle.books.specs.View.{tally_in, head_in, group_of, symbol_of, order_of, orders_in, books_in, rows_of, view}
 use Rattle.books.specs.Writing.{group_index, order_index}
 use Rattle.books.specs.Rules.{Valid}
+use Rattle.books.specs.Refining.{Counted}
 use Rattle.books.proofs.Judged.{valid_counted}
 use Rattle.checks.specs.Saying.{figures_said, tally_said, symbol_at}
 use Rattle.checks.specs.Trying.{Checkable}
@@ -135,6 +136,10 @@ module _ (m : List ℕ) (g i : ℕ) (h : Held m g i) where
   abbrev order : Order
   order = order_of (rows_of m) i
 
+  held_sound : SoundOrder (view m).ledger.symbols order
+  unfolding books_in
+  held_sound = ∥∥₁_elim h.valid (hlevel props) (λ v. all_look by_key (SoundOrder (view m).ledger.symbols) order.ticket.key (orders_in (rows_of m)) v.sound.ledger.orders_sound h.stands)
+
   -- what a memory that meets the state rules says of the order and its group
   record Facts : Type 0 where
     small : Small order.figures.size order.figures.price
@@ -153,6 +158,9 @@ module _ (m : List ℕ) (g i : ℕ) (h : Held m g i) where
   pub held_small : Small order.figures.size order.figures.price
   held_small = facts.small
 
+  held_done : order.figures.done ≤ order.figures.size
+  held_done = facts.done
+
   pub held_exchangeable : (new : ℕ) → new ≤ most_value → Exchangeable (is_buy order.ticket.side) (value_said order.figures) new (tally_in (rows_of m groups g))
   unfolding open_value
   held_exchangeable new n = record {
@@ -169,6 +177,17 @@ module _ (m : List ℕ) (g i : ℕ) (h : Held m g i) where
   -- N and M are checked by a tally and a price
   pub held_checkable : (y : ℕ) (t : TallyWords) (p : ℕ) → (metrics (tally_said t)).gross_both ≤ 5_000_000_000_000_000_000 → p ≤ 999_999_999_999 → Checkable m g y t p
   held_checkable y t p w c = ∥∥₁_elim h.valid (hlevel props) (λ v. checkable m v g y t p h.listed w c)
+
+  -- the words of the order's rows are there
+  pub record Bounds : Type 0 where
+    pub counts : Counted m
+    pub few : g < 64
+    pub room : i < room_of m
+    pub request : request_start m i + width_of requests ≤ length m
+
+  pub held_bounds : Bounds
+  held_bounds = ∥∥₁_elim h.valid (hlevel props) (λ v. let c = valid_counted m v in let r : i < room_of m = omega (arith, c, h.placed) in
+      record { counts = c; few = omega (arith, c, h.listed); room = r; request = omega (arith, c, r) })
 
   pub changed_small : (f : Figures) → Small f.size f.price → (metrics (tally_after (rows_of m) g order f)).gross_both ≤ 5_000_000_000_000_000_000
   changed_small f s = let e = held_exchangeable 0 (omega arith) in

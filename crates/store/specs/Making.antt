@@ -1,9 +1,10 @@
 -- Document 01, "Making a fresh state", and the totals that a closing line shows.
 use Prim.{Unit, tt}
-use Rattle.std.specs.Prelude.{◌≡◌, refl, Bool, true, cond, List, [], ◌∷◌, ℕ, zero, suc, ◌≤◌, ◌<◌, ltb, length, get_or, replicate, Option, Some, None, Result, Ok, Err}
-use Rattle.std.proofs.Common.{sym, ap, ◌∙◌, subst, arith, ltb-true}
+use Rattle.std.specs.Prelude.{◌≡◌, refl, Bool, true, cond, List, [], ◌∷◌, ℕ, zero, suc, ◌+◌, ◌≤◌, ◌<◌, ltb, eqb, length, get_or, set, replicate, Option, Some, None, Result, Ok, Err}
+use Rattle.std.proofs.Common.{sym, ap, ◌∙◌, subst, arith, get_or-set_same, get_or-set_other, ltb-true, eqb-true}
 use Rattle.std.proofs.Math.Option.{Option as OptionOf, none, some, map}
 use Rattle.std.proofs.lemmas.List.{length-replicate}
+use Rattle.std.proofs.lemmas.Bool.{eqb-false}
 use Rattle.laws.specs.Tests.{on}
 use Rattle.laws.specs.Rows.{Sheet}
 use Rattle.laws.specs.Numbered.{those, numbered, get_elem_numbered, those_none}
@@ -38,6 +39,16 @@ made m = cond (too_short m) (made_number (Err TooShort)) (made_number (Ok tt))
 
 unfoldable pub made_words : List ℕ → List ℕ
 made_words m = cond (too_short m) m (replicate (length m) 0)
+
+-- words that are all 0
+pub all_zero : (m : List ℕ) → ((k : ℕ) → k < length m → get_or m k 0 ≡ 0) → m ≡ replicate (length m) 0
+all_zero [] h = refl
+all_zero (v ∷ m) h = λ i. h 0 (omega arith) i ∷ all_zero m (λ k lt. h (suc k) (omega arith)) i
+
+-- one word more set to 0
+pub zero_more : (m : List ℕ) (i : ℕ) → i < length m → ((k : ℕ) → k < i → get_or m k 0 ≡ 0) → (k : ℕ) → k < i + 1 → get_or (set m i 0) k 0 ≡ 0
+zero_more m i lt h k l = on (λ b. eqb k i ≡ b → get_or (set m i 0) k 0 ≡ 0) (eqb k i)
+    (λ z e. ap (λ (j : ℕ). get_or (set m i 0) j 0) (eqb-true k i e) ∙ get_or-set_same m i 0 0 lt) (λ z e. let ne = eqb-false k i e in get_or-set_other m i k 0 0 ne ∙ h k (omega (arith, ne))) refl
 
 -- a word of so many zeros
 zero_at : (n k : ℕ) → ◌≡◌ {A = ℕ} (get_or (replicate n 0) k 0) 0
