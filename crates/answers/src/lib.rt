@@ -85,6 +85,7 @@ fn put_closing(to: &mut [u8], totals: Totals) -> usize
 }
 
 // Writes the answer line of a record.
+// kept: what may not change, here and below: as `codec::write_record`
 pub fn write_answer(
     line: &[u8],
     rec: Reading,

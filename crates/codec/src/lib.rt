@@ -348,6 +348,8 @@ fn put_record(to: &mut [u8], line: &[u8], rec: Reading) -> usize
 }
 
 // Writes a record's line, from its reading and the line that its texts stand in.
+// kept: what may not change (docs/PROMISES.md: no public call has a `requires`): one function for this and for those of `answers` would be given the
+// call that puts the line, and ask that it may be called
 pub fn write_record(line: &[u8], rec: Reading, to: &mut [u8]) -> Result<usize, WriteError>
     ensures { left to.new result ≡ wrote 161 (record_line line.now rec) to.old }
 {

@@ -110,6 +110,7 @@ fn hint_of(word: u64) -> usize
 }
 
 // The hints of some rows. Of rows that share a hint the last has it.
+// kept: tried, slower: hints handed back by value are copied twice
 fn hint_rows(rows: Rows, hints: &mut Hints)
     requires { rows.words ≡ 1 }
 {
@@ -231,6 +232,7 @@ impl Lists<'_> {
 
     // The open values of each group, summed over the places, each of which is tried and its owner found. False where a place is not in range,
     // its owner not listed, or a sum above the ceiling.
+    // kept: tried, slower: an `Option` of the sums is copied twice; with the hints a state call with few places took nearly half as long again
     #[tactic(auto, using(crate::specs::Places::none_listed, crate::specs::Whole::unlisted, crate::specs::Whole::unfit, crate::specs::Whole::too_much, crate::specs::Whole::tallied))]
     fn tally(self, sums: &mut [Sides; books::MOST_GROUPS]) -> bool
         requires { Sums (rows_of self.mem.now) sums.old 0 }
