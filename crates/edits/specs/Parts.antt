@@ -1,9 +1,10 @@
 -- Stores made in two parts: what each part needs follows from what the whole needs, and the second runs on the words that the first leaves.
-use Rattle.std.specs.Prelude.{◌≡◌, List, [], ◌∷◌, ◌++◌, ℕ, ◌≤◌, length}
+use Rattle.std.specs.Prelude.{◌≡◌, List, [], ◌∷◌, ◌++◌, ℕ, suc, ◌+◌, ◌≤◌, length}
 use Rattle.std.proofs.Common.{sym, ap, ap₂, ◌∙◌, subst, arith, add-one}
 use Rattle.laws.specs.Tables.{All}
-use Rattle.laws.specs.Rows.{Store, extent, Fit, run, run_append, length_run}
-use Rattle.books.specs.Layout.{layout}
+use Rattle.std.proofs.lemmas.List.Edits.{sets}
+use Rattle.laws.specs.Rows.{cell, region, Store, extent, Fit, run, run_append, length_run}
+use Rattle.books.specs.Layout.{heads, layout}
 use Rattle.books.specs.Writing.{head_store}
 use Rattle.edits.specs.Storing.{Storable}
 use Rattle.edits.specs.Lending.{CanStore, Stores}
@@ -30,6 +31,11 @@ module _ {room : ℕ} {m : List ℕ} (ss rest : List Store) where
 -- the words after both parts
 pub ran_both : (room : ℕ) (m : List ℕ) (ss rest : List Store) {after last : List ℕ} → after ≡ run (layout room) ss m → last ≡ run (layout room) rest after → last ≡ run (layout room) (ss ++ rest) m
 ran_both room m ss rest e q = q ∙ ap (run (layout room) rest) e ∙ sym (run_append (layout room) ss rest m)
+
+-- the words after stores and then a count of the head raised
+pub ran_raised : (room : ℕ) (m : List ℕ) (ss : List Store) (k n : ℕ) {after last : List ℕ} → after ≡ run (layout room) ss m → last ≡ sets after k ((n + 1) ∷ []) → last ≡ run (layout room) (ss ++ (head_store k (suc n) ∷ [])) m
+ran_raised room m ss k n {after} e q = let here : k ≡ cell (region (layout room) heads) 0 k = omega arith in
+    ran_both room m ss (head_store k (suc n) ∷ []) e (q ∙ ap₂ (λ (j v : ℕ). sets after j (v ∷ [])) here (add-one n))
 
 -- ── the same of the lent words as the code holds them ──
 pub can_first : {w : Lent} (ss rest : List Store) → CanStore w (ss ++ rest) → CanStore w ss

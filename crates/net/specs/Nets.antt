@@ -1,9 +1,10 @@
 -- Document 01, "What is kept", "The net keeps its sign": what the sign and the size of a net say, at 0 and at the ceiling too.
 use Rattle.std.specs.Prelude.{◌≡◌, refl, true, false, cond, ◌↔◌, ℕ, zero, suc, ◌+◌, ◌-◌, ◌≤◌, ◌<◌, ◌^◌, ltb, T, ℤ, pos, negsuc, ◌+ℤ◌, ◌-ℤ◌, neg_ℤ, nat_abs}
-use Rattle.std.proofs.Common.{sym, ap, ◌∙◌, subst, arith, SFits, ltb-true, ltb-false}
+use Rattle.std.proofs.Common.{sym, ap, ◌∙◌, subst, arith, SFits, to_z, ltb-true, ltb-false}
 use Rattle.std.proofs.Math.IntN.{+ℤ_idl, +ℤ_comm, neg_ℤ-neg_ℤ, neg_ℤ-+ℤ}
 use Rattle.std.specs.Int.Signed.{mag, lt_z, non_neg}
 use Rattle.std.specs.Int.{w64}
+use Rattle.std.proofs.lemmas.Int.{to_z_pos}
 use Rattle.laws.specs.Tests.{on}
 use Rattle.rulebook.specs.Lines.{ceiling}
 use Rattle.rulebook.specs.Kept.{net}
@@ -51,6 +52,13 @@ size_fits z h = record { sfits = omega (arith, mag_size z) }
 
 pub net_fits : (b s : ℕ) → b < 2 ^ 63 → s < 2 ^ 63 → SFits w64 (net b s)
 net_fits b s h k = size_fits (net b s) (omega (arith, net_apart b s))
+
+-- what two casts and their difference compute
+pub casts_net : (b s : ℕ) → b < 2 ^ 63 → s < 2 ^ 63 → to_z w64 b -ℤ to_z w64 s ≡ net b s
+casts_net b s h k = rw (to_z_pos w64 b (omega arith), to_z_pos w64 s (omega arith))
+
+pub casts_fit : (b s : ℕ) → b < 2 ^ 63 → s < 2 ^ 63 → SFits w64 (to_z w64 b -ℤ to_z w64 s)
+casts_fit b s h k = rw (casts_net b s h k) (net_fits b s h k)
 
 -- a number taken from 0 has the same size, and is not minus where it was
 pub size_turned : (z : ℤ) → nat_abs (pos 0 -ℤ z) ≡ nat_abs z
