@@ -1,10 +1,11 @@
 // The day's lines: each read into its record, and records, answers and closing lines written.
 #![tactic(auto)]
 
-ghost use Rattle.std.specs.Prelude.{◌≡◌, ◌-◌, eqb, length};
+ghost use Rattle.std.specs.Prelude.{◌≡◌, List, replicate, ℕ, ◌-◌, ◌^◌, ◌<◌, eqb, length};
+ghost use Rattle.std.specs.Fn.{FnOnceReturnsAtMut};
 ghost use Rattle.codec.specs.Readings.{letter_of, read_line, reading};
 ghost use Rattle.codec.specs.Writing.{fields_of, record_line};
-ghost use Rattle.fields.specs.Out.{out, cursor, Leaves, put_fields, put_line, left, wrote};
+ghost use Rattle.fields.specs.Out.{out, cursor, Leaves, put_fields, put_line, left, handed, wrote};
 
 use fields::{Parsed, Place, WriteError, Writer};
 
@@ -347,9 +348,23 @@ fn put_record(to: &mut [u8], line: &[u8], rec: Reading) -> usize
     writer.at
 }
 
+// Writes what `put` puts into a buffer of so many bytes, whole or not at all: it is put into memory of its own, and handed over from there.
+pub fn write_whole<const MOST: usize, F: FnOnce(&mut [u8]) -> usize>(
+    put: F,
+    to: &mut [u8],
+) -> Result<usize, WriteError>
+    requires small { MOST < 2 ^ 63 }
+    requires callable { F.IsAlwaysCallable put }
+    ensures { (d : List ℕ) × (n : ℕ) × FnOnceReturnsAtMut F.FnOnce put (replicate MOST 0) n d × (left to.new result ≡ handed d n to.old) }
+{
+    let mut bytes = [0u8; MOST];
+    let count = put(&mut bytes);
+    fields::hand_over(&bytes, count, to)
+}
+
 // Writes a record's line, from its reading and the line that its texts stand in.
-// kept: what may not change (docs/PROMISES.md: no public call has a `requires`): one function for this and for those of `answers` would be given the
-// call that puts the line, and ask that it may be called
+// kept: what may not change (docs/LOOK-BACK.md, b3): this and the writers of `answers` stay as b3 left them, so that exports and programs run the same
+// code; `write_whole` stands for callers in other crates
 pub fn write_record(line: &[u8], rec: Reading, to: &mut [u8]) -> Result<usize, WriteError>
     ensures { left to.new result ≡ wrote 161 (record_line line.now rec) to.old }
 {
